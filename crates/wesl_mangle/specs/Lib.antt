@@ -1,0 +1,3 @@
+pub mod Mangle
+pub mod Escape
+pub mod Counted

@@ -1,0 +1,1 @@
+//! Manglers: names for the declarations of all modules in one output.

@@ -1,0 +1,2 @@
+//! Plain names and module paths.
+pub mod name;

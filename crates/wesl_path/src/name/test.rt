@@ -1,0 +1,67 @@
+//! Whether bytes are a plain name.
+ghost use mathlib.Core.Path.{_≡_};
+ghost use mathlib.Core.Bool.{Bool, true, false, cond, not, _&&_, _||_};
+ghost use Prim.Native.Nat.{ℕ, _+_, _≤_, _<_};
+ghost use lib.ListN.{length, take, drop, getD};
+ghost use Rattle.std.specs.shelf.Text.{sameBytes};
+ghost use Rattle.wesl_path.specs.Name.{digit, letter, word-byte, word-bytes, starts-well, reserved, plain};
+
+const LONGEST_NAME: usize = 64;
+
+fn is_digit(b: u8) -> bool
+    ensures { λ r. ⌜ r ≡ digit b ⌝ }
+{
+    b >= b'0' && b <= b'9'
+}
+
+fn is_letter(b: u8) -> bool
+    ensures { λ r. ⌜ r ≡ letter b ⌝ }
+{
+    (b >= b'A' && b <= b'Z') || (b >= b'a' && b <= b'z')
+}
+
+fn is_word_byte(b: u8) -> bool
+    ensures { λ r. ⌜ r ≡ word-byte b ⌝ }
+{
+    is_letter(b) || is_digit(b) || b == b'_'
+}
+
+/// Whether two texts have the same bytes.
+pub(crate) fn same_bytes(a: &[u8], b: &[u8]) -> bool
+    ensures { λ r. ⌜ r ≡ sameBytes (now (a .entry)) (now (b .entry)) ⌝ }
+{
+    a == b
+}
+
+fn is_reserved(bytes: &[u8]) -> bool
+    ensures { λ r. ⌜ r ≡ reserved (now (bytes .entry)) ⌝ }
+{
+    same_bytes(bytes, b"package") || same_bytes(bytes, b"self") || same_bytes(bytes, b"super") || same_bytes(bytes, b"import")
+}
+
+fn starts_well(bytes: &[u8]) -> bool
+    ensures { λ r. ⌜ r ≡ starts-well (now (bytes .entry)) ⌝ }
+{
+    match bytes {
+        [] => false,
+        [first, ..] => !is_digit(*first),
+    }
+}
+
+fn are_word_bytes(bytes: &[u8]) -> bool
+    ensures { λ r. ⌜ r ≡ word-bytes (now (bytes .entry)) ⌝ }
+{
+    for b in bytes {
+        if !is_word_byte(*b) {
+            return false;
+        }
+    }
+    true
+}
+
+/// Whether `bytes` are a plain name.
+pub fn is_plain(bytes: &[u8]) -> bool
+    ensures { λ r. ⌜ r ≡ plain (now (bytes .entry)) ⌝ }
+{
+    starts_well(bytes) && bytes.len() <= LONGEST_NAME && are_word_bytes(bytes) && !is_reserved(bytes)
+}

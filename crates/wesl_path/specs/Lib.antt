@@ -1,2 +1,3 @@
 pub mod Name
 pub mod Path
+pub mod Words

@@ -8,7 +8,7 @@ use lib.ListN.{length, take, drop, replicate}
 use lib.Chars.{codes}
 use Rattle.std.specs.shelf.Lists.{All, joined, countBy}
 use Rattle.std.specs.shelf.Text.{sameBytes}
-use Rattle.wesl_path.specs.Name.{Plain}
+use Rattle.wesl_path.specs.Name.{plain, Plain}
 
 -- where a path starts: at the package's root, `n` modules up, or at a package of one or more parts
 pub data Origin : Type 0 where
@@ -118,3 +118,27 @@ of-words n (w ∷ ws) =
 
 unfoldable pub path-of : List ℕ → Path
 path-of bs = of-words (slashes bs) (words bs)
+
+-- The same as tests, for the types that keep a path.
+
+abbrev pub all-plain : List (List ℕ) → Bool
+all-plain [] = true
+all-plain (w ∷ ws) = plain w && all-plain ws
+
+abbrev pub plain-origin : Origin → Bool
+plain-origin absolute = true
+plain-origin (relative n) = true
+plain-origin (packaged part more) = plain part && all-plain more
+
+unfoldable pub is-path : List ℕ → Bool
+is-path bs =
+    sameBytes (shown (path-of bs)) bs
+      && (plain-origin (path-of bs .origin) && (all-plain (path-of bs .components) && leb (length bs) 255))
+
+-- names parted by `::`, one or more, within the length of a path
+unfoldable pub components-of : List ℕ → List (List ℕ)
+components-of bs = words bs
+
+unfoldable pub are-components : List ℕ → Bool
+are-components bs =
+    sameBytes (led (codes "::") (components-of bs)) (codes "::" ++ bs) && (all-plain (components-of bs) && leb (length bs) 255)

@@ -1,2 +1,3 @@
 //! Plain names and module paths.
 pub mod name;
+pub mod words;

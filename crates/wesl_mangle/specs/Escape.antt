@@ -28,6 +28,13 @@ escaped-origin (relative (suc n)) = codes "super" ++ led (codes "_") (replicate 
 escaped-origin (packaged part []) = escaped part
 escaped-origin (packaged part (next ∷ more)) = codes "import_" ++ (decimal (2 + length more) ++ led (codes "_") (map escaped (part ∷ (next ∷ more))))
 
+-- what stands before the words of a package of several parts
+abbrev pub package-lead : Origin → List ℕ
+package-lead absolute = []
+package-lead (relative n) = []
+package-lead (packaged part []) = []
+package-lead (packaged part (next ∷ more)) = codes "import_" ++ (decimal (2 + length more) ++ codes "_")
+
 unfoldable pub escape : Path → List ℕ → List ℕ
 escape p item = escaped-origin (p .origin) ++ (led (codes "_") (map escaped (p .components)) ++ (codes "_" ++ escaped item))
 
@@ -37,7 +44,6 @@ pub data Reading : Type 0 where
   counting : ℕ → Reading
   inside : (before : List ℕ) → (left : ℕ) → Reading
 
-
 -- the words of an escaped text
 abbrev pub unescaped : Reading → List ℕ → List (List ℕ)
 unescaped fresh [] = []
@@ -45,8 +51,8 @@ unescaped (counting n) [] = [] ∷ []
 unescaped (inside w left) [] = w ∷ []
 unescaped fresh (b ∷ bs) = cond (eqb b 95) (unescaped (counting 0) bs) (unescaped (inside (b ∷ []) 0) bs)
 unescaped (counting n) (b ∷ bs) =
-      cond (digit b) (unescaped (counting (shifted n b)) bs)
-        (cond (eqb b 95) (unescaped (inside (b ∷ []) (n - 1)) bs) (unescaped (inside (b ∷ []) n) bs))
+    cond (digit b) (unescaped (counting (shifted n b)) bs)
+    (cond (eqb b 95) (unescaped (inside (b ∷ []) (n - 1)) bs) (unescaped (inside (b ∷ []) n) bs))
 unescaped (inside w zero) (b ∷ bs) = cond (eqb b 95) (w ∷ unescaped fresh bs) (unescaped (inside (w ++ b ∷ []) 0) bs)
 unescaped (inside w (suc left)) (b ∷ bs) = cond (eqb b 95) (unescaped (inside (w ++ b ∷ []) left) bs) (unescaped (inside (w ++ b ∷ []) (suc left)) bs)
 
@@ -69,9 +75,9 @@ abbrev pub item-of : List (List ℕ) → Item
 item-of [] = ended-item absolute [] []
 item-of (w ∷ ws) =
     cond (sameBytes w (codes "package")) (ended-item absolute [] ws)
-      (cond (sameBytes w (codes "self")) (ended-item (relative 0) [] ws)
-        (cond (sameBytes w (codes "super")) (after-super 1 ws)
-          (cond (sameBytes w (codes "import")) (after-import ws) (in-package 1 (w ∷ ws)))))
+    (cond (sameBytes w (codes "self")) (ended-item (relative 0) [] ws)
+    (cond (sameBytes w (codes "super")) (after-super 1 ws)
+    (cond (sameBytes w (codes "import")) (after-import ws) (in-package 1 (w ∷ ws)))))
 
 -- the declaration that an escaped name stands for
 unfoldable pub unescape : List ℕ → Item

@@ -1,3 +1,5 @@
 pub mod Mangle
 pub mod Escape
 pub mod Counted
+pub mod Laws
+pub mod Examples

@@ -1,2 +1,4 @@
 pub mod WordFacts
 pub mod PathFacts
+pub mod OriginFacts
+pub mod Fronts

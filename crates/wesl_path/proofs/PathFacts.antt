@@ -63,3 +63,175 @@ words-front w (b ∷ rest) h k =
   where
     skips : (b : ℕ) (rest : List ℕ) → parts-words b ≡ true → without-empty (pieces (b ∷ rest)) ≡ without-empty (pieces rest)
     skips b rest k = rw k
+
+words-after-lead : (s : Step) (bs : List ℕ) → words (lead-of s ++ bs) ≡ words bs
+unfolding words
+words-after-lead Part bs = refl
+words-after-lead Super bs = refl
+words-after-lead Component bs = refl
+
+pub words-led : (s : Step) (ws : List (List ℕ)) (rest : List ℕ) → All Solid ws → Boundary rest → words (led (lead-of s) ws ++ rest) ≡ ws ++ words rest
+words-led s [] rest h k = refl
+words-led s (w ∷ ws) rest h k =
+    ap words (append-assoc (lead-of s ++ w) (led (lead-of s) ws) rest ∙ append-assoc (lead-of s) w (led (lead-of s) ws ++ rest))
+      ∙ (words-after-lead s (w ++ (led (lead-of s) ws ++ rest))
+      ∙ (words-front w (led (lead-of s) ws ++ rest) (h .0) (led-edge s ws rest k)
+      ∙ ap (λ x. w ∷ x) (words-led s ws rest (h .1) k)))
+
+-- the components at the end of a path
+pub words-components : (cs : List (List ℕ)) → All Plain cs → words (led (codes "::") cs) ≡ cs
+unfolding words
+words-components cs h =
+    ap words (sym (append-nil (led (codes "::") cs))) ∙ (words-led Component cs [] (plain-solids cs h) tt ∙ append-nil cs)
+
+pub super-solid : Solid (codes "super")
+super-solid = record { inner = (refl, (refl, (refl, (refl, (refl, tt))))); some = omega arith }
+
+supers-solid : (n : ℕ) → All Solid (replicate n (codes "super"))
+supers-solid zero = tt
+supers-solid (suc n) = (super-solid, supers-solid n)
+
+pub components-edge : (cs : List (List ℕ)) → Boundary (led (codes "::") cs)
+components-edge cs = subst Boundary (append-nil (led (codes "::") cs)) (led-edge Component cs [] tt)
+
+slashes-append : (xs ys : List ℕ) → slashes (xs ++ ys) ≡ slashes xs + slashes ys
+unfolding slashes
+slashes-append xs ys = sumBy-append (λ x. cond (eqb x 47) 1 0) xs ys
+
+slashes-inner : (w : List ℕ) → Inner w → slashes w ≡ 0
+unfolding slashes
+slashes-inner [] h = refl
+slashes-inner (b ∷ w) h =
+    let e = slashes-inner w (h .1) in
+    let k = h .0 in
+    let f : _≡_ {A = ℕ} (cond (eqb b 47) 1 0) 0 = grind (arith, tells) in
+    sumBy-cons (λ x. cond (eqb x 47) 1 0) b w ∙ (omega (arith, e, f))
+
+slashes-parts : (ws : List (List ℕ)) → All Solid ws → slashes (led (codes "/") ws) ≡ length ws
+unfolding slashes
+slashes-parts [] h = refl
+slashes-parts (w ∷ ws) h =
+    slashes-append (codes "/" ++ w) (led (codes "/") ws)
+      ∙ (ap (λ x. x + slashes (led (codes "/") ws)) (sumBy-cons (λ x. cond (eqb x 47) 1 0) 47 w ∙ ap (λ x. 1 + x) (slashes-inner w (h .0 .inner)))
+      ∙ (let e = slashes-parts ws (h .1) in omega (arith, e)))
+
+slashes-components : (ws : List (List ℕ)) → All Solid ws → slashes (led (codes "::") ws) ≡ 0
+unfolding slashes
+slashes-components [] h = refl
+slashes-components (w ∷ ws) h =
+    let e = slashes-components ws (h .1) in
+    let f = slashes-inner w (h .0 .inner) in
+    slashes-append (codes "::" ++ w) (led (codes "::") ws) ∙ (let g = slashes-append (codes "::") w in omega (arith, e, f, g))
+
+-- a plain name is none of the words that origins are written with
+pub record Free (w : List ℕ) : Type 0 where
+  pub package′ : sameBytes w (codes "package") ≡ false
+  pub self′ : sameBytes w (codes "self") ≡ false
+  pub super′ : sameBytes w (codes "super") ≡ false
+  pub import′ : sameBytes w (codes "import") ≡ false
+
+pub plain-is-free : (w : List ℕ) → Plain w → Free w
+unfolding reserved
+plain-is-free w h =
+    let a = or-parts (sameBytes w (codes "package")) _ (plain-free w h) in
+    let b = or-parts (sameBytes w (codes "self")) _ (a .1) in
+    let d = or-parts (sameBytes w (codes "super")) (sameBytes w (codes "import")) (b .1) in
+    record { package′ = a .0; self′ = b .0; super′ = d .0; import′ = d .1 }
+
+supers-end : (n : ℕ) (cs : List (List ℕ)) → All Plain cs → after-super n cs ≡ record { origin = relative n; components = cs }
+supers-end n [] h = refl
+supers-end n (c ∷ cs) h = let e = plain-is-free c (h .0) .super′ in rw e
+
+supers-count : (m n : ℕ) (cs : List (List ℕ)) → All Plain cs → after-super m (replicate n (codes "super") ++ cs) ≡ record { origin = relative (n + m); components = cs }
+supers-count m zero cs h = supers-end m cs h ∙ ap (λ k. record { origin = relative k; components = cs }) (sym (zero-add m))
+supers-count m (suc n) cs h =
+    supers-count (suc m) n cs h ∙ ap (λ k. record { origin = relative k; components = cs }) (let e : n + suc m ≡ suc n + m = omega arith in e)
+
+of-part : (n : ℕ) (w : List ℕ) (ws : List (List ℕ)) → Free w → of-words n (w ∷ ws) ≡ record { origin = packaged w (take n ws); components = drop n ws }
+of-part n w ws f = let a = f .package′ in let b = f .self′ in let d = f .super′ in rw (a, b, d)
+
+-- what is printed is read back
+pub path-back : (p : Path) → PlainOrigin (p .origin) → All Plain (p .components) → path-of (shown p) ≡ p
+unfolding path-of shown
+path-back p ho hc = by-origin (p .origin) (p .components) ho hc
+  where
+    by-origin : (o : Origin) (cs : List (List ℕ)) → PlainOrigin o → All Plain cs → path-of (shown (record { origin = o; components = cs })) ≡ record { origin = o; components = cs }
+    by-origin absolute cs ho hc =
+        ap (of-words _) (words-front (codes "package") (led (codes "::") cs) (record { inner = (refl, (refl, (refl, (refl, (refl, (refl, (refl, tt))))))); some = omega arith }) (components-edge cs)
+          ∙ ap (λ x. codes "package" ∷ x) (words-components cs hc))
+    by-origin (relative zero) cs ho hc =
+        ap (of-words _) (words-front (codes "self") (led (codes "::") cs) (record { inner = (refl, (refl, (refl, (refl, tt)))); some = omega arith }) (components-edge cs)
+          ∙ ap (λ x. codes "self" ∷ x) (words-components cs hc))
+    by-origin (relative (suc n)) cs ho hc =
+        let more = led (codes "::") (replicate n (codes "super")) in
+        ap (of-words _) (ap words (append-assoc (codes "super") more (led (codes "::") cs))
+          ∙ (words-front (codes "super") (more ++ led (codes "::") cs) super-solid (led-edge Super (replicate n (codes "super")) _ (components-edge cs))
+          ∙ ap (λ x. codes "super" ∷ x) (words-led Super (replicate n (codes "super")) _ (supers-solid n) (components-edge cs)
+          ∙ ap (λ x. replicate n (codes "super") ++ x) (words-components cs hc))))
+          ∙ (supers-count 1 n cs hc ∙ ap (λ k. record { origin = relative k; components = cs }) (let e : n + 1 ≡ suc n = omega arith in e))
+    by-origin (packaged part more) cs ho hc =
+        let s = plain-solids more (ho .1) in
+        let text = (part ++ led (codes "/") more) ++ led (codes "::") cs in
+        let k : slashes text ≡ length more =
+          slashes-append (part ++ led (codes "/") more) (led (codes "::") cs)
+            ∙ (let a = slashes-append part (led (codes "/") more) in
+               let b = slashes-inner part (plain-inner part (ho .0)) in
+               let d = slashes-parts more s in
+               let e = slashes-components cs (plain-solids cs hc) in
+               omega (arith, a, b, d, e)) in
+        let w : words text ≡ part ∷ (more ++ cs) =
+          ap words (append-assoc part (led (codes "/") more) (led (codes "::") cs))
+            ∙ (words-front part (led (codes "/") more ++ led (codes "::") cs) (plain-solid part (ho .0)) (led-edge Part more _ (components-edge cs))
+            ∙ ap (λ x. part ∷ x) (words-led Part more _ s (components-edge cs) ∙ ap (λ x. more ++ x) (words-components cs hc))) in
+        ap (λ n. of-words n (words text)) k
+          ∙ (ap (of-words (length more)) w
+          ∙ (of-part (length more) part (more ++ cs) (plain-is-free part (ho .0))
+          ∙ (let t = take-at more cs (length more) refl in
+             let d = drop-at more cs (length more) refl in
+             rw (t, d))))
+
+all-plain-decides : (ws : List (List ℕ)) → Decides (all-plain ws) (All Plain ws)
+all-plain-decides = decides-by-and plain Plain all-plain (λ w. ((λ e. e), (λ e. e))) refl (λ _ _. refl)
+
+plain-origin-decides : (o : Origin) → Decides (plain-origin o) (PlainOrigin o)
+plain-origin-decides absolute = ((λ _. tt), (λ _. refl))
+plain-origin-decides (relative n) = ((λ _. tt), (λ _. refl))
+plain-origin-decides (packaged part more) =
+    let d = all-plain-decides more in
+    (
+      (λ e. let p = and-parts (plain part) (all-plain more) e in (p .0, d .0 (p .1))),
+      (λ h. and-from (plain part) (all-plain more) (h .0) (d .1 (h .1))),
+    )
+
+-- the test for a path, both ways
+pub path-from-test : (bs : List ℕ) → is-path bs ≡ true → Sound (path-of bs) × (shown (path-of bs) ≡ bs)
+unfolding is-path
+path-from-test bs e =
+    let a = and-parts (sameBytes (shown (path-of bs)) bs) _ e in
+    let b = and-parts (plain-origin (path-of bs .origin)) _ (a .1) in
+    let d = and-parts (all-plain (path-of bs .components)) (leb (length bs) 255) (b .1) in
+    let s = sameBytes-decides (shown (path-of bs)) bs .0 (a .0) in
+    let l = leb-true (length bs) 255 (d .1) in
+    (
+      record {
+        origin = plain-origin-decides (path-of bs .origin) .0 (b .0);
+        components = all-plain-decides (path-of bs .components) .0 (d .0);
+        short = (let k = ap length s in omega (arith, k));
+      },
+      s,
+    )
+
+pub test-from-path : (p : Path) → Sound p → is-path (shown p) ≡ true
+unfolding is-path
+test-from-path p h =
+    let e = path-back p (h .origin) (h .components) in
+    and-from _ _ (sameBytes-decides _ _ .1 (ap shown e))
+      (and-from _ _ (plain-origin-decides _ .1 (subst (λ q. PlainOrigin (q .origin)) (sym e) (h .origin)))
+        (and-from _ _ (all-plain-decides _ .1 (subst (λ q. All Plain (q .components)) (sym e) (h .components))) (le-leb (length (shown p)) 255 (h .short))))
+
+pub is-path-decides : (bs : List ℕ) → Decides (is-path bs) (IsPath bs)
+is-path-decides bs =
+    (
+      (λ e. let p = path-from-test bs e in record { path = path-of bs; sound = p .0; printed = p .1 }),
+      (λ h. subst (λ x. is-path x ≡ true) (h .printed) (test-from-path (h .path) (h .sound))),
+    )

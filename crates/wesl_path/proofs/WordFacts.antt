@@ -149,7 +149,7 @@ lead-long Part = lit< tt
 lead-long Super = lit< tt
 lead-long Component = lit< tt
 
-first-taken : (bs : List ℕ) (n : ℕ) → n ≡ 0 + length (first-word bs) → take (n - 0) bs ≡ first-word bs
+pub first-taken : (bs : List ℕ) (n : ℕ) → n ≡ 0 + length (first-word bs) → take (n - 0) bs ≡ first-word bs
 first-taken bs n e =
     let k : length (first-word bs) ≡ n - 0 = omega (arith, e) in
     ap (take (n - 0)) (sym (word-parts bs)) ∙ take-at (first-word bs) (after-word bs) (n - 0) k

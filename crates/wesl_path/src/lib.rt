@@ -1,3 +1,6 @@
 //! Plain names and module paths.
+pub mod cells;
+pub mod module_path;
 pub mod name;
+pub mod origin;
 pub mod words;

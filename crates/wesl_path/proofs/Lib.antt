@@ -1,4 +1,5 @@
 pub mod WordFacts
 pub mod PathFacts
 pub mod OriginFacts
+pub mod PassedFacts
 pub mod Fronts

@@ -31,10 +31,12 @@ pub(crate) fn written(front: &[u8], sep: &[u8], back: &[u8]) -> Option<ModulePat
     requires { ⌜ (length (now front ++ (now sep ++ now back)) ≤ 255 → is-path (now front ++ (now sep ++ now back)) ≡ true) ⌝ }
     ensures { λ r. ⌜ Cases r (255 < length (now (front .entry) ++ (now (sep .entry) ++ now (back .entry)))) (λ m. path-text m ≡ now (front .entry) ++ (now (sep .entry) ++ now (back .entry))) ⌝ }
 {
-    let left = LONGEST_PATH.checked_sub(front.len())?.checked_sub(sep.len())?.checked_sub(back.len())?;
+    if front.len() > LONGEST_PATH || sep.len() > LONGEST_PATH - front.len() || back.len() > LONGEST_PATH - front.len() - sep.len() {
+        return None;
+    }
     let mut bytes = [0u8; LONGEST_PATH];
     put(&mut bytes, 0, front);
     put(&mut bytes, front.len(), sep);
     put(&mut bytes, front.len() + sep.len(), back);
-    Some(ModulePath { bytes, len: LONGEST_PATH - left })
+    Some(ModulePath { bytes, len: front.len() + sep.len() + back.len() })
 }

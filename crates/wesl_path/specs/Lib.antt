@@ -1,5 +1,6 @@
 pub mod Name
 pub mod Path
 pub mod Words
+pub mod Faults
 pub mod Heads
 pub mod Texts

@@ -5,11 +5,17 @@ ghost use mathlib.Core.List.{List, _++_};
 ghost use Prim.Native.Nat.{ℕ, _+_, _≤_, _<_};
 ghost use lib.ListN.{length, take, drop};
 ghost use Rattle.std.specs.Options.{Cases};
+ghost use Rattle.std.specs.Results.{Cases as ByOk};
 ghost use Rattle.std.specs.Orderings.{Decides};
 ghost use Rattle.wesl_path.specs.Path.{IsPath, is-path};
-ghost use Rattle.wesl_path.specs.Texts.{path-text, path-value};
+ghost use Rattle.wesl_path.specs.Heads.{HeadOf, kind-of};
+ghost use Rattle.wesl_path.specs.Texts.{path-text, path-value, SameAnswer, Equivalence};
 use crate::cells::put;
+use crate::fault::PathFault;
 use crate::module_path::ModulePath;
+use crate::origin::Head;
+use crate::origin::PathOrigin;
+use crate::name::test::same_bytes;
 use crate::origin::read_origin;
 use crate::words::Step;
 use crate::words::pass;
@@ -39,4 +45,68 @@ pub(crate) fn written(front: &[u8], sep: &[u8], back: &[u8]) -> Option<ModulePat
     put(&mut bytes, front.len(), sep);
     put(&mut bytes, front.len() + sep.len(), back);
     Some(ModulePath { bytes, len: front.len() + sep.len() + back.len() })
+}
+
+impl ModulePath {
+    /// Reads a path, or refuses bytes that are none.
+    pub fn read(text: &[u8]) -> Result<ModulePath, PathFault>
+        ensures { λ r. ⌜ ByOk r (λ m. path-text m ≡ now (text .entry)) (λ e. (e ≡ PathFault.Malformed) × (IsPath (now (text .entry)) → ⊥)) ⌝ }
+    {
+        if !is_path(text) {
+            return Err(PathFault::Malformed);
+        }
+        match written(text, b"", b"") {
+            Some(path) => Ok(path),
+            None => Err(PathFault::Malformed),
+        }
+    }
+
+    /// The bytes that the path is written as.
+    pub fn as_bytes(&self) -> &[u8]
+        ensures value { λ r. ⌜ now r ≡ path-text (now (self .entry)) ⌝ }
+        ensures valid { λ r. ⌜ is-path (now r) ≡ true ⌝ }
+    {
+        let len = self.len;
+        &self.bytes[0..len]
+    }
+
+    /// The origin, and where its bytes end.
+    pub fn head(&self) -> Head
+        ensures { λ r. ⌜ HeadOf (path-text (now (self .entry))) r ⌝ }
+    {
+        match read_origin(self.as_bytes()) {
+            Some(head) => head,
+            None => unreachable(),
+        }
+    }
+
+    /// Where the path starts.
+    pub fn origin(&self) -> PathOrigin
+        ensures { λ r. ⌜ r ≡ kind-of (path-value (now (self .entry)) .origin) ⌝ }
+    {
+        self.head().origin
+    }
+
+    /// How many components follow the origin.
+    pub fn component_count(&self) -> usize
+        ensures { λ r. ⌜ r ≡ length (path-value (now (self .entry)) .components) ⌝ }
+    {
+        let end = self.head().end;
+        pass(self.as_bytes(), end, Step::Component, usize::MAX).count
+    }
+}
+
+pub impl PartialEq<ModulePath> for ModulePath as ModulePathPartialEq {
+    ghost equals = { λ a b r. SameAnswer a b r };
+
+    fn eq(&self, other: &ModulePath) -> bool {
+        same_bytes(self.as_bytes(), other.as_bytes())
+    }
+}
+
+/// That `==` at paths is an equivalence.
+pub fn equality_stands() -> u8
+    ensures { λ _. ⌜ Equivalence ⌝ }
+{
+    0
 }

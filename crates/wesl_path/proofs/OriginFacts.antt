@@ -134,14 +134,14 @@ text-left text n e =
 
 -- a text of which the first word and what follows are an origin's
 headed-at : (text : List ℕ) (h : Head) (o : Origin) → PlainOrigin o → h .origin ≡ kind-of o → first-word text ≡ first-of o → after-word text ≡ after-of o ++ drop (h .end) text
-  → Boundary (drop (h .end) text) → h .end ≤ length text → Only o (drop (h .end) text) → Headed text h
+    → Boundary (drop (h .end) text) → h .end ≤ length text → Only o (drop (h .end) text) → Headed text h
 headed-at text h o ho k f a b l only =
     record {
       found = o;
       plain = ho;
       kind = k;
       reads =
-        sym (word-parts text)
+          sym (word-parts text)
           ∙ (ap (λ x. x ++ after-word text) f
           ∙ (ap (λ x. first-of o ++ x) a
           ∙ (sym (append-assoc (first-of o) (after-of o) (drop (h .end) text)) ∙ ap (λ x. x ++ drop (h .end) text) (sym (origin-parts o)))));
@@ -172,28 +172,28 @@ module _ (text : List ℕ) (n : ℕ) (long : n ≡ 0 + length (first-word text))
       headed-at text (record { origin = Relative 0; end = n }) (relative zero) tt refl (word-is _ e) (sym (text-left text n long)) left-edge end-within (only-self _)
 
   pub headed-super : sameBytes (take (n - 0) text) (codes "super") ≡ true → (most count end : ℕ) → count < most → Passing Super most text n count end
-    → Headed text (record { origin = Relative (1 + count); end = end })
+      → Headed text (record { origin = Relative (1 + count); end = end })
   headed-super e most count end few p =
       let s = supers-are (p .ws) (p .fits) in
       let k = p .many in
       headed-at text (record { origin = Relative (1 + count); end = end }) (relative (suc (length (p .ws)))) tt (ap Relative (one-add count ∙ ap suc k)) (word-is _ e)
-        (sym (text-left text n long) ∙ (p .reads ∙ ap (λ x. led (codes "::") x ++ drop end text) s)) (p .edge) (p .within)
-        (only-super (length (p .ws)) (drop end text) (p .edge) (p .stops few))
+      (sym (text-left text n long) ∙ (p .reads ∙ ap (λ x. led (codes "::") x ++ drop end text) s)) (p .edge) (p .within)
+      (only-super (length (p .ws)) (drop end text) (p .edge) (p .stops few))
     where
       supers-are : (ws : List (List ℕ)) → All (Fits Super) ws → ws ≡ replicate (length ws) (codes "super")
       supers-are [] h = refl
       supers-are (w ∷ ws) h = let a = sameBytes-decides w (codes "super") .0 (h .0) in let b = supers-are ws (h .1) in cc
 
   pub headed-parts : plain (take (n - 0) text) ≡ true → (most count end : ℕ) → count < most → Passing Part most text n count end
-    → Headed text (record { origin = Package (1 + count); end = end })
+      → Headed text (record { origin = Package (1 + count); end = end })
   headed-parts e most count end few p =
       let w = first-word text in
       let hp : Plain w = subst Plain (first-taken text n long) e in
       headed-at text (record { origin = Package (1 + count); end = end }) (packaged w (p .ws)) (hp, p .fits) (ap (λ x. Package (1 + x)) (p .many)) refl
-        (sym (text-left text n long) ∙ p .reads) (p .edge) (p .within) (only-parts w (p .ws) (drop end text) hp (p .fits) (p .edge) (p .stops few))
+      (sym (text-left text n long) ∙ p .reads) (p .edge) (p .within) (only-parts w (p .ws) (drop end text) hp (p .fits) (p .edge) (p .stops few))
 
   pub headless-at : sameBytes (take (n - 0) text) (codes "package") ≡ false → sameBytes (take (n - 0) text) (codes "self") ≡ false
-    → sameBytes (take (n - 0) text) (codes "super") ≡ false → plain (take (n - 0) text) ≡ false → Headless text
+      → sameBytes (take (n - 0) text) (codes "super") ≡ false → plain (take (n - 0) text) ≡ false → Headless text
   headless-at a b d e p hp hc k = no-origin (p .origin) hp (first-taken text n long ∙ (ap first-word k ∙ shown-first p hp))
     where
       no-origin : (o : Origin) → PlainOrigin o → take (n - 0) text ≡ first-of o → ⊥

@@ -20,8 +20,29 @@ use Rattle.std.proofs.shelf.Ways.{tells, decides-by-and, decides-eqb}
 use Rattle.std.proofs.shelf.Equals.{sameBytes-decides}
 use Rattle.wesl_path.specs.Name.{word-bytes, starts-well, reserved, plain, Plain}
 use Rattle.wesl_path.specs.Path.{
-  Origin, absolute, relative, packaged, Path, led, shown-origin, shown, PlainOrigin, Sound, IsPath, parts-words, onto-first, pieces, without-empty, words,
-  slashes, after-super, of-words, path-of, all-plain, plain-origin, is-path
+  Origin,
+  absolute,
+  relative,
+  packaged,
+  Path,
+  led,
+  shown-origin,
+  shown,
+  PlainOrigin,
+  Sound,
+  IsPath,
+  parts-words,
+  onto-first,
+  pieces,
+  without-empty,
+  words,
+  slashes,
+  after-super,
+  of-words,
+  path-of,
+  all-plain,
+  plain-origin,
+  is-path,
 }
 use Rattle.wesl_path.specs.Words.{Boundary, lead-of, Fits}
 use Rattle.wesl_path.specs.declared.words.Step.{Step}
@@ -64,7 +85,7 @@ words-front w (b ∷ rest) h k =
     skips : (b : ℕ) (rest : List ℕ) → parts-words b ≡ true → without-empty (pieces (b ∷ rest)) ≡ without-empty (pieces rest)
     skips b rest k = rw k
 
-words-after-lead : (s : Step) (bs : List ℕ) → words (lead-of s ++ bs) ≡ words bs
+pub words-after-lead : (s : Step) (bs : List ℕ) → words (lead-of s ++ bs) ≡ words bs
 unfolding words
 words-after-lead Part bs = refl
 words-after-lead Super bs = refl
@@ -74,9 +95,9 @@ pub words-led : (s : Step) (ws : List (List ℕ)) (rest : List ℕ) → All Soli
 words-led s [] rest h k = refl
 words-led s (w ∷ ws) rest h k =
     ap words (append-assoc (lead-of s ++ w) (led (lead-of s) ws) rest ∙ append-assoc (lead-of s) w (led (lead-of s) ws ++ rest))
-      ∙ (words-after-lead s (w ++ (led (lead-of s) ws ++ rest))
-      ∙ (words-front w (led (lead-of s) ws ++ rest) (h .0) (led-edge s ws rest k)
-      ∙ ap (λ x. w ∷ x) (words-led s ws rest (h .1) k)))
+    ∙ (words-after-lead s (w ++ (led (lead-of s) ws ++ rest))
+    ∙ (words-front w (led (lead-of s) ws ++ rest) (h .0) (led-edge s ws rest k)
+    ∙ ap (λ x. w ∷ x) (words-led s ws rest (h .1) k)))
 
 -- the components at the end of a path
 pub words-components : (cs : List (List ℕ)) → All Plain cs → words (led (codes "::") cs) ≡ cs
@@ -112,8 +133,8 @@ unfolding slashes
 slashes-parts [] h = refl
 slashes-parts (w ∷ ws) h =
     slashes-append (codes "/" ++ w) (led (codes "/") ws)
-      ∙ (ap (λ x. x + slashes (led (codes "/") ws)) (sumBy-cons (λ x. cond (eqb x 47) 1 0) 47 w ∙ ap (λ x. 1 + x) (slashes-inner w (h .0 .inner)))
-      ∙ (let e = slashes-parts ws (h .1) in omega (arith, e)))
+    ∙ (ap (λ x. x + slashes (led (codes "/") ws)) (sumBy-cons (λ x. cond (eqb x 47) 1 0) 47 w ∙ ap (λ x. 1 + x) (slashes-inner w (h .0 .inner)))
+    ∙ (let e = slashes-parts ws (h .1) in omega (arith, e)))
 
 slashes-components : (ws : List (List ℕ)) → All Solid ws → slashes (led (codes "::") ws) ≡ 0
 unfolding slashes
@@ -158,47 +179,46 @@ path-back p ho hc = by-origin (p .origin) (p .components) ho hc
     by-origin : (o : Origin) (cs : List (List ℕ)) → PlainOrigin o → All Plain cs → path-of (shown (record { origin = o; components = cs })) ≡ record { origin = o; components = cs }
     by-origin absolute cs ho hc =
         ap (of-words _) (words-front (codes "package") (led (codes "::") cs) (record { inner = (refl, (refl, (refl, (refl, (refl, (refl, (refl, tt))))))); some = omega arith }) (components-edge cs)
-          ∙ ap (λ x. codes "package" ∷ x) (words-components cs hc))
+        ∙ ap (λ x. codes "package" ∷ x) (words-components cs hc))
     by-origin (relative zero) cs ho hc =
         ap (of-words _) (words-front (codes "self") (led (codes "::") cs) (record { inner = (refl, (refl, (refl, (refl, tt)))); some = omega arith }) (components-edge cs)
-          ∙ ap (λ x. codes "self" ∷ x) (words-components cs hc))
+        ∙ ap (λ x. codes "self" ∷ x) (words-components cs hc))
     by-origin (relative (suc n)) cs ho hc =
         let more = led (codes "::") (replicate n (codes "super")) in
         ap (of-words _) (ap words (append-assoc (codes "super") more (led (codes "::") cs))
-          ∙ (words-front (codes "super") (more ++ led (codes "::") cs) super-solid (led-edge Super (replicate n (codes "super")) _ (components-edge cs))
-          ∙ ap (λ x. codes "super" ∷ x) (words-led Super (replicate n (codes "super")) _ (supers-solid n) (components-edge cs)
-          ∙ ap (λ x. replicate n (codes "super") ++ x) (words-components cs hc))))
-          ∙ (supers-count 1 n cs hc ∙ ap (λ k. record { origin = relative k; components = cs }) (let e : n + 1 ≡ suc n = omega arith in e))
+        ∙ (words-front (codes "super") (more ++ led (codes "::") cs) super-solid (led-edge Super (replicate n (codes "super")) _ (components-edge cs))
+        ∙ ap (λ x. codes "super" ∷ x) (words-led Super (replicate n (codes "super")) _ (supers-solid n) (components-edge cs)
+        ∙ ap (λ x. replicate n (codes "super") ++ x) (words-components cs hc))))
+        ∙ (supers-count 1 n cs hc ∙ ap (λ k. record { origin = relative k; components = cs }) (let e : n + 1 ≡ suc n = omega arith in e))
     by-origin (packaged part more) cs ho hc =
         let s = plain-solids more (ho .1) in
         let text = (part ++ led (codes "/") more) ++ led (codes "::") cs in
         let k : slashes text ≡ length more =
-          slashes-append (part ++ led (codes "/") more) (led (codes "::") cs)
-            ∙ (let a = slashes-append part (led (codes "/") more) in
-               let b = slashes-inner part (plain-inner part (ho .0)) in
-               let d = slashes-parts more s in
-               let e = slashes-components cs (plain-solids cs hc) in
-               omega (arith, a, b, d, e)) in
+        slashes-append (part ++ led (codes "/") more) (led (codes "::") cs)
+        ∙ (let a = slashes-append part (led (codes "/") more) in
+        let b = slashes-inner part (plain-inner part (ho .0)) in
+        let d = slashes-parts more s in
+        let e = slashes-components cs (plain-solids cs hc) in
+        omega (arith, a, b, d, e)) in
         let w : words text ≡ part ∷ (more ++ cs) =
-          ap words (append-assoc part (led (codes "/") more) (led (codes "::") cs))
-            ∙ (words-front part (led (codes "/") more ++ led (codes "::") cs) (plain-solid part (ho .0)) (led-edge Part more _ (components-edge cs))
-            ∙ ap (λ x. part ∷ x) (words-led Part more _ s (components-edge cs) ∙ ap (λ x. more ++ x) (words-components cs hc))) in
+        ap words (append-assoc part (led (codes "/") more) (led (codes "::") cs))
+        ∙ (words-front part (led (codes "/") more ++ led (codes "::") cs) (plain-solid part (ho .0)) (led-edge Part more _ (components-edge cs))
+        ∙ ap (λ x. part ∷ x) (words-led Part more _ s (components-edge cs) ∙ ap (λ x. more ++ x) (words-components cs hc))) in
         ap (λ n. of-words n (words text)) k
-          ∙ (ap (of-words (length more)) w
-          ∙ (of-part (length more) part (more ++ cs) (plain-is-free part (ho .0))
-          ∙ (let t = take-at more cs (length more) refl in
-             let d = drop-at more cs (length more) refl in
-             rw (t, d))))
+        ∙ (ap (of-words (length more)) w
+        ∙ (of-part (length more) part (more ++ cs) (plain-is-free part (ho .0))
+        ∙ (let t = take-at more cs (length more) refl in
+        let d = drop-at more cs (length more) refl in
+        rw (t, d))))
 
-all-plain-decides : (ws : List (List ℕ)) → Decides (all-plain ws) (All Plain ws)
+pub all-plain-decides : (ws : List (List ℕ)) → Decides (all-plain ws) (All Plain ws)
 all-plain-decides = decides-by-and plain Plain all-plain (λ w. ((λ e. e), (λ e. e))) refl (λ _ _. refl)
 
 plain-origin-decides : (o : Origin) → Decides (plain-origin o) (PlainOrigin o)
 plain-origin-decides absolute = ((λ _. tt), (λ _. refl))
 plain-origin-decides (relative n) = ((λ _. tt), (λ _. refl))
 plain-origin-decides (packaged part more) =
-    let d = all-plain-decides more in
-    (
+    let d = all-plain-decides more in (
       (λ e. let p = and-parts (plain part) (all-plain more) e in (p .0, d .0 (p .1))),
       (λ h. and-from (plain part) (all-plain more) (h .0) (d .1 (h .1))),
     )
@@ -211,8 +231,7 @@ path-from-test bs e =
     let b = and-parts (plain-origin (path-of bs .origin)) _ (a .1) in
     let d = and-parts (all-plain (path-of bs .components)) (leb (length bs) 255) (b .1) in
     let s = sameBytes-decides (shown (path-of bs)) bs .0 (a .0) in
-    let l = leb-true (length bs) 255 (d .1) in
-    (
+    let l = leb-true (length bs) 255 (d .1) in (
       record {
         origin = plain-origin-decides (path-of bs .origin) .0 (b .0);
         components = all-plain-decides (path-of bs .components) .0 (d .0);
@@ -226,12 +245,11 @@ unfolding is-path
 test-from-path p h =
     let e = path-back p (h .origin) (h .components) in
     and-from _ _ (sameBytes-decides _ _ .1 (ap shown e))
-      (and-from _ _ (plain-origin-decides _ .1 (subst (λ q. PlainOrigin (q .origin)) (sym e) (h .origin)))
-        (and-from _ _ (all-plain-decides _ .1 (subst (λ q. All Plain (q .components)) (sym e) (h .components))) (le-leb (length (shown p)) 255 (h .short))))
+    (and-from _ _ (plain-origin-decides _ .1 (subst (λ q. PlainOrigin (q .origin)) (sym e) (h .origin)))
+    (and-from _ _ (all-plain-decides _ .1 (subst (λ q. All Plain (q .components)) (sym e) (h .components))) (le-leb (length (shown p)) 255 (h .short))))
 
 pub is-path-decides : (bs : List ℕ) → Decides (is-path bs) (IsPath bs)
-is-path-decides bs =
-    (
-      (λ e. let p = path-from-test bs e in record { path = path-of bs; sound = p .0; printed = p .1 }),
-      (λ h. subst (λ x. is-path x ≡ true) (h .printed) (test-from-path (h .path) (h .sound))),
-    )
+is-path-decides bs = (
+  (λ e. let p = path-from-test bs e in record { path = path-of bs; sound = p .0; printed = p .1 }),
+  (λ h. subst (λ x. is-path x ≡ true) (h .printed) (test-from-path (h .path) (h .sound))),
+)

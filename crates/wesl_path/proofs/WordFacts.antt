@@ -13,7 +13,7 @@ use Rattle.std.specs.shelf.Lists.{All}
 use Rattle.std.specs.shelf.Text.{sameBytes}
 use Rattle.std.proofs.shelf.Lists.{append-assoc, append-nil, length-push, append-cancel-left, at-drop-more, at-drop-all, take-append-drop, take-at, drop-at, drop-drop, length-drop, length-append}
 use Rattle.std.proofs.shelf.Elements.{all-drop, all-push}
-use Rattle.std.proofs.shelf.Tests.{and-parts, cond-true, cond-false, cases-bool, not-true, not-false, both-ways}
+use Rattle.std.proofs.shelf.Tests.{and-parts, leb-true, cond-true, cond-false, cases-bool, not-true, not-false, both-ways}
 use Rattle.std.proofs.shelf.Ways.{tells}
 use Rattle.std.proofs.shelf.Equals.{sameBytes-decides}
 use Rattle.wesl_path.specs.Name.{digit, letter, word-byte, word-bytes, starts-well, reserved, plain, Plain}
@@ -83,6 +83,12 @@ pub plain-starts : (w : List ℕ) → Plain w → starts-well w ≡ true
 unfolding plain
 plain-starts w h = and-parts (starts-well w) _ h .0
 
+pub plain-short : (w : List ℕ) → Plain w → length w ≤ 64
+unfolding plain
+plain-short w h =
+    let p = and-parts (starts-well w) _ h in
+    leb-true (length w) 64 (and-parts (leb (length w) 64) _ (p .1) .0)
+
 pub plain-free : (w : List ℕ) → Plain w → reserved w ≡ false
 unfolding plain
 plain-free w h =
@@ -115,7 +121,7 @@ pub record Prefix (s : Step) (ws cs : List (List ℕ)) (rest tail : List ℕ) : 
   pub left : rest ≡ led (lead-of s) (drop (length ws) cs) ++ tail
 
 pub led-prefix : (s : Step) (ws cs : List (List ℕ)) (rest tail : List ℕ) → All (Fits s) ws → All (Fits s) cs → Boundary rest → Boundary tail → NotLed s tail
-  → led (lead-of s) ws ++ rest ≡ led (lead-of s) cs ++ tail → Prefix s ws cs rest tail
+    → led (lead-of s) ws ++ rest ≡ led (lead-of s) cs ++ tail → Prefix s ws cs rest tail
 led-prefix s [] cs rest tail hw hc hr ht stop e = record { few = omega arith; same = refl; left = e }
 led-prefix s (w ∷ ws) [] rest tail hw hc hr ht stop e =
     absurd (stop w (led (lead-of s) ws ++ rest) (hw .0) (led-edge s ws rest hr) (sym e ∙ simp append-assoc))
@@ -156,7 +162,7 @@ first-taken bs n e =
 
 -- the word after a lead, found by its end in what follows the lead
 pub led-word-at : (s : Step) (text : List ℕ) (at : ℕ) (rest : List ℕ) (n : ℕ) → at ≤ length text → drop at text ≡ lead-of s ++ rest → n ≡ 0 + length (first-word rest)
-  → fitting s (take (n - 0) rest) ≡ true → LedWord s text at ((length text - length rest) + n)
+    → fitting s (take (n - 0) rest) ≡ true → LedWord s text at ((length text - length rest) + n)
 led-word-at s text at rest n h e l f =
     let w = first-word rest in
     let front : drop at text ≡ (lead-of s ++ w) ++ after-word rest = e ∙ (ap (λ x. lead-of s ++ x) (sym (word-parts rest)) ∙ sym (append-assoc (lead-of s) w (after-word rest))) in
@@ -165,7 +171,7 @@ led-word-at s text at rest n h e l f =
     let end : (length text - length rest) + n ≡ at + length (lead-of s ++ w) = simp length-append (omega arith) in
     let short = word-within rest in
     let left : drop ((length text - length rest) + n) text ≡ after-word rest =
-      ap (λ k. drop k text) end ∙ (sym (drop-drop (length (lead-of s ++ w)) at text) ∙ (ap (drop (length (lead-of s ++ w))) front ∙ drop-at (lead-of s ++ w) (after-word rest) _ refl)) in
+    ap (λ k. drop k text) end ∙ (sym (drop-drop (length (lead-of s ++ w)) at text) ∙ (ap (drop (length (lead-of s ++ w))) front ∙ drop-at (lead-of s ++ w) (after-word rest) _ refl)) in
     record {
       word = w;
       fits = ap (fitting s) (sym (first-taken rest n l)) ∙ f;
@@ -176,7 +182,7 @@ led-word-at s text at rest n h e l f =
     }
 
 pub led-word-other : (s : Step) (text : List ℕ) (at : ℕ) (rest : List ℕ) (n : ℕ) → drop at text ≡ lead-of s ++ rest → n ≡ 0 + length (first-word rest)
-  → fitting s (take (n - 0) rest) ≡ false → NotLed s (drop at text)
+    → fitting s (take (n - 0) rest) ≡ false → NotLed s (drop at text)
 led-word-other s text at rest n e l f w more hw hb k =
     let same : rest ≡ w ++ more = append-cancel-left (lead-of s) rest (w ++ more) (sym e ∙ k) in
     let word : first-word rest ≡ w = ap first-word same ∙ first-is w more (fits-inner s w hw) hb in

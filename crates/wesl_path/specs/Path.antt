@@ -112,9 +112,9 @@ abbrev pub of-words : ℕ → List (List ℕ) → Path
 of-words n [] = record { origin = absolute; components = [] }
 of-words n (w ∷ ws) =
     cond (sameBytes w (codes "package")) (record { origin = absolute; components = ws })
-      (cond (sameBytes w (codes "self")) (record { origin = relative 0; components = ws })
-        (cond (sameBytes w (codes "super")) (after-super 1 ws)
-          (record { origin = packaged w (take n ws); components = drop n ws })))
+    (cond (sameBytes w (codes "self")) (record { origin = relative 0; components = ws })
+    (cond (sameBytes w (codes "super")) (after-super 1 ws)
+    (record { origin = packaged w (take n ws); components = drop n ws })))
 
 unfoldable pub path-of : List ℕ → Path
 path-of bs = of-words (slashes bs) (words bs)
@@ -133,12 +133,4 @@ plain-origin (packaged part more) = plain part && all-plain more
 unfoldable pub is-path : List ℕ → Bool
 is-path bs =
     sameBytes (shown (path-of bs)) bs
-      && (plain-origin (path-of bs .origin) && (all-plain (path-of bs .components) && leb (length bs) 255))
-
--- names parted by `::`, one or more, within the length of a path
-unfoldable pub components-of : List ℕ → List (List ℕ)
-components-of bs = words bs
-
-unfoldable pub are-components : List ℕ → Bool
-are-components bs =
-    sameBytes (led (codes "::") (components-of bs)) (codes "::" ++ bs) && (all-plain (components-of bs) && leb (length bs) 255)
+    && (plain-origin (path-of bs .origin) && (all-plain (path-of bs .components) && leb (length bs) 255))

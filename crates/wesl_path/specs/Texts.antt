@@ -5,8 +5,9 @@ use mathlib.Core.List.{List}
 use Prim.Native.Nat.{ℕ}
 use lib.ListN.{take}
 use Rattle.std.specs.Orderings.{Decides}
-use Rattle.wesl_path.specs.Path.{Path, path-of}
+use Rattle.wesl_path.specs.Path.{Path, path-of, words}
 use Rattle.wesl_path.specs.declared.module_path.ModulePath.{ModulePath}
+use Rattle.wesl_path.specs.declared.components.Components.{Components}
 use Rattle.wesl_path.specs.declared.name.PlainName.{PlainName}
 
 -- a path's bytes, and the path that they are
@@ -19,6 +20,13 @@ path-value m = path-of (path-text m)
 -- a name's bytes
 abbrev pub name-text : PlainName → List ℕ
 name-text n = take (n .len) (n .bytes)
+
+-- the bytes of components, and the names that they are
+abbrev pub components-text : Components → List ℕ
+components-text cs = take (cs .len) (cs .bytes)
+
+abbrev pub components-value : Components → List (List ℕ)
+components-value cs = words (components-text cs)
 
 -- `==` at paths: the answer tells equal bytes, and with them equal paths
 abbrev pub SameAnswer : ModulePath → ModulePath → Bool → Type 0

@@ -15,4 +15,3 @@ pub struct ModulePath {
     ghost within: { len ≤ 255 },
     ghost valid: { is-path (take len bytes) ≡ true },
 }
-

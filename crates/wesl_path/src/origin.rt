@@ -35,18 +35,30 @@ pub(crate) fn read_origin(text: &[u8]) -> Option<Head>
     let end = word_end(text, 0);
     let first = &text[0..end];
     if same_bytes(first, b"package") {
-        return Some(Head { origin: PathOrigin::Absolute, end });
+        return Some(Head {
+            origin: PathOrigin::Absolute,
+            end,
+        });
     }
     if same_bytes(first, b"self") {
-        return Some(Head { origin: PathOrigin::Relative(0), end });
+        return Some(Head {
+            origin: PathOrigin::Relative(0),
+            end,
+        });
     }
     if same_bytes(first, b"super") {
         let more = pass(text, end, Step::Super, usize::MAX);
-        return Some(Head { origin: PathOrigin::Relative(1 + more.count), end: more.end });
+        return Some(Head {
+            origin: PathOrigin::Relative(1 + more.count),
+            end: more.end,
+        });
     }
     if !is_plain(first) {
         return None;
     }
     let more = pass(text, end, Step::Part, usize::MAX);
-    Some(Head { origin: PathOrigin::Package(1 + more.count), end: more.end })
+    Some(Head {
+        origin: PathOrigin::Package(1 + more.count),
+        end: more.end,
+    })
 }

@@ -98,7 +98,10 @@ pub(crate) fn pass(text: &[u8], at: usize, step: Step, most: usize) -> Passed
     while passed.count < most {
         match led_word(text, passed.end, step) {
             Some(end) => {
-                passed = Passed { count: passed.count + 1, end };
+                passed = Passed {
+                    count: passed.count + 1,
+                    end,
+                };
             }
             None => return passed,
         }

@@ -13,9 +13,9 @@ ghost use Rattle.wesl_path.specs.Texts.{path-text, path-value, SameAnswer, Equ
 use crate::cells::put;
 use crate::fault::PathFault;
 use crate::module_path::ModulePath;
+use crate::name::test::same_bytes;
 use crate::origin::Head;
 use crate::origin::PathOrigin;
-use crate::name::test::same_bytes;
 use crate::origin::read_origin;
 use crate::words::Step;
 use crate::words::pass;
@@ -28,7 +28,8 @@ pub fn is_path(text: &[u8]) -> bool
 {
     match read_origin(text) {
         None => false,
-        Some(head) => text.len() <= LONGEST_PATH && pass(text, head.end, Step::Component, usize::MAX).end == text.len(),
+        Some(head) => text.len() <= LONGEST_PATH
+            && pass(text, head.end, Step::Component, usize::MAX).end == text.len(),
     }
 }
 
@@ -37,14 +38,20 @@ pub(crate) fn written(front: &[u8], sep: &[u8], back: &[u8]) -> Option<ModulePat
     requires { ⌜ (length (now front ++ (now sep ++ now back)) ≤ 255 → is-path (now front ++ (now sep ++ now back)) ≡ true) ⌝ }
     ensures { λ r. ⌜ Cases r (255 < length (now (front .entry) ++ (now (sep .entry) ++ now (back .entry)))) (λ m. path-text m ≡ now (front .entry) ++ (now (sep .entry) ++ now (back .entry))) ⌝ }
 {
-    if front.len() > LONGEST_PATH || sep.len() > LONGEST_PATH - front.len() || back.len() > LONGEST_PATH - front.len() - sep.len() {
+    if front.len() > LONGEST_PATH
+        || sep.len() > LONGEST_PATH - front.len()
+        || back.len() > LONGEST_PATH - front.len() - sep.len()
+    {
         return None;
     }
     let mut bytes = [0u8; LONGEST_PATH];
     put(&mut bytes, 0, front);
     put(&mut bytes, front.len(), sep);
     put(&mut bytes, front.len() + sep.len(), back);
-    Some(ModulePath { bytes, len: front.len() + sep.len() + back.len() })
+    Some(ModulePath {
+        bytes,
+        len: front.len() + sep.len() + back.len(),
+    })
 }
 
 impl ModulePath {

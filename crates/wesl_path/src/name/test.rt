@@ -4,7 +4,12 @@ ghost use mathlib.Core.Bool.{Bool, true, false, cond, not, _&&_, _||_};
 ghost use Prim.Native.Nat.{ℕ, _+_, _≤_, _<_};
 ghost use lib.ListN.{length, take, drop, getD};
 ghost use Rattle.std.specs.shelf.Text.{sameBytes};
+ghost use Rattle.std.specs.Results.{Cases as ByOk};
+ghost use Rattle.wesl_path.specs.Texts.{name-text};
 ghost use Rattle.wesl_path.specs.Name.{digit, letter, word-byte, word-bytes, starts-well, reserved, plain};
+use crate::cells::put;
+use crate::fault::PathFault;
+use crate::name::PlainName;
 
 const LONGEST_NAME: usize = 64;
 
@@ -36,7 +41,10 @@ pub(crate) fn same_bytes(a: &[u8], b: &[u8]) -> bool
 fn is_reserved(bytes: &[u8]) -> bool
     ensures { λ r. ⌜ r ≡ reserved (now (bytes .entry)) ⌝ }
 {
-    same_bytes(bytes, b"package") || same_bytes(bytes, b"self") || same_bytes(bytes, b"super") || same_bytes(bytes, b"import")
+    same_bytes(bytes, b"package")
+        || same_bytes(bytes, b"self")
+        || same_bytes(bytes, b"super")
+        || same_bytes(bytes, b"import")
 }
 
 fn starts_well(bytes: &[u8]) -> bool
@@ -63,5 +71,34 @@ fn are_word_bytes(bytes: &[u8]) -> bool
 pub fn is_plain(bytes: &[u8]) -> bool
     ensures { λ r. ⌜ r ≡ plain (now (bytes .entry)) ⌝ }
 {
-    starts_well(bytes) && bytes.len() <= LONGEST_NAME && are_word_bytes(bytes) && !is_reserved(bytes)
+    starts_well(bytes)
+        && bytes.len() <= LONGEST_NAME
+        && are_word_bytes(bytes)
+        && !is_reserved(bytes)
+}
+
+impl PlainName {
+    /// Reads a plain name, or refuses bytes that are none.
+    pub fn read(bytes: &[u8]) -> Result<PlainName, PathFault>
+        ensures { λ r. ⌜ ByOk r (λ n. name-text n ≡ now (bytes .entry)) (λ e. (e ≡ PathFault.Malformed) × (plain (now (bytes .entry)) ≡ false)) ⌝ }
+    {
+        if !is_plain(bytes) {
+            return Err(PathFault::Malformed);
+        }
+        let mut cell = [0u8; LONGEST_NAME];
+        put(&mut cell, 0, bytes);
+        Ok(PlainName {
+            bytes: cell,
+            len: bytes.len(),
+        })
+    }
+
+    /// The name's bytes.
+    pub fn as_bytes(&self) -> &[u8]
+        ensures value { λ r. ⌜ now r ≡ name-text (now (self .entry)) ⌝ }
+        ensures valid { λ r. ⌜ plain (now r) ≡ true ⌝ }
+    {
+        let len = self.len;
+        &self.bytes[0..len]
+    }
 }

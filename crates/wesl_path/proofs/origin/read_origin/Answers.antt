@@ -18,12 +18,12 @@ pass-more-requires c κs =
 pub returns-then-same-bytes-3 : need.returns-then-same-bytes-3
 returns-then-same-bytes-3 c =
     headed-super (c .args .text .now) (c .word-end-end .result) (c .word-end-end .ensures .value) (sym (c .if-same-bytes-3 .ensures tt)) 18446744073709551615
-      (c .pass-more .result .count) (c .pass-more .result .end) (let a = c .pass-more .ensures .ahead in let w = c .pass-more .ensures .within in omega (arith, c .good)) (c .pass-more .ensures)
+    (c .pass-more .result .count) (c .pass-more .result .end) (let a = c .pass-more .ensures .ahead in let w = c .pass-more .ensures .within in omega (arith, c .good)) (c .pass-more .ensures)
 
 pub returns-then-not-is-plain : need.returns-then-not-is-plain
 returns-then-not-is-plain c =
     headless-at (c .args .text .now) (c .word-end-end .result) (c .word-end-end .ensures .value) (sym (c .if-same-bytes .ensures tt)) (sym (c .if-same-bytes-2 .ensures tt))
-      (sym (c .if-same-bytes-3 .ensures tt)) (sym (c .if-not-is-plain .ensures tt))
+    (sym (c .if-same-bytes-3 .ensures tt)) (sym (c .if-not-is-plain .ensures tt))
 
 pub pass-more-requires-2 : need.pass-more-requires-2
 pass-more-requires-2 c κs =
@@ -33,4 +33,4 @@ pass-more-requires-2 c κs =
 pub returns : need.returns
 returns c =
     headed-parts (c .args .text .now) (c .word-end-end .result) (c .word-end-end .ensures .value) (sym (c .if-not-is-plain .ensures tt)) 18446744073709551615
-      (c .pass-more-2 .result .count) (c .pass-more-2 .result .end) (let a = c .pass-more-2 .ensures .ahead in let w = c .pass-more-2 .ensures .within in omega (arith, c .good)) (c .pass-more-2 .ensures)
+    (c .pass-more-2 .result .count) (c .pass-more-2 .result .end) (let a = c .pass-more-2 .ensures .ahead in let w = c .pass-more-2 .ensures .within in omega (arith, c .good)) (c .pass-more-2 .ensures)

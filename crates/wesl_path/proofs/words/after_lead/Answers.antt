@@ -11,8 +11,8 @@ use Rattle.wesl_path.proofs.words.after_lead.Needs as need
 
 -- the part `text[at..]` is what is left from `at` on
 from-there : (text lead : List ℕ) (at : ℕ) (r : Option (RefT (List ℕ)))
-  → Cases r ((rest : List ℕ) → take (length text - at) (drop at text) ≡ lead ++ rest → ⊥) (λ x. take (length text - at) (drop at text) ≡ lead ++ x .now)
-  → Cases r ((rest : List ℕ) → drop at text ≡ lead ++ rest → ⊥) (λ x. drop at text ≡ lead ++ x .now)
+    → Cases r ((rest : List ℕ) → take (length text - at) (drop at text) ≡ lead ++ rest → ⊥) (λ x. take (length text - at) (drop at text) ≡ lead ++ x .now)
+    → Cases r ((rest : List ℕ) → drop at text ≡ lead ++ rest → ⊥) (λ x. drop at text ≡ lead ++ x .now)
 from-there text lead at r h = simp take-rest at h
 
 pub returns : need.returns
@@ -20,4 +20,4 @@ returns c =
     let text = c .args .text .now in
     let at = c .args .at in
     from-there text (c .args .lead .now) at (c .strip-prefix .result)
-      (strip-prefix-is (take (length text - at) (drop at text)) (c .args .lead .now) (c .strip-prefix .result) (c .strip-prefix .ensures .cases))
+    (strip-prefix-is (take (length text - at) (drop at text)) (c .args .lead .now) (c .strip-prefix .result) (c .strip-prefix .ensures .cases))

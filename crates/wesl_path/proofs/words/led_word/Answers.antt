@@ -23,9 +23,9 @@ add-result c =
 pub returns-then-is-fitting : need.returns-then-is-fitting
 returns-then-is-fitting c =
     led-word-at (c .args .step) (c .args .text .now) (c .args .at) (c .in-Some .rest .now) (c .word-end-end .result) (c .pre)
-      (c .in-Some .ensures tt ∙ ap (λ x. x ++ c .in-Some .rest .now) (c .lead .ensures)) (c .word-end-end .ensures .value) (sym (c .if-is-fitting .ensures tt))
+    (c .in-Some .ensures tt ∙ ap (λ x. x ++ c .in-Some .rest .now) (c .lead .ensures)) (c .word-end-end .ensures .value) (sym (c .if-is-fitting .ensures tt))
 
 pub returns-else-is-fitting : need.returns-else-is-fitting
 returns-else-is-fitting c =
     led-word-other (c .args .step) (c .args .text .now) (c .args .at) (c .in-Some .rest .now) (c .word-end-end .result)
-      (c .in-Some .ensures tt ∙ ap (λ x. x ++ c .in-Some .rest .now) (c .lead .ensures)) (c .word-end-end .ensures .value) (sym (c .if-is-fitting .ensures tt))
+    (c .in-Some .ensures tt ∙ ap (λ x. x ++ c .in-Some .rest .now) (c .lead .ensures)) (c .word-end-end .ensures .value) (sym (c .if-is-fitting .ensures tt))

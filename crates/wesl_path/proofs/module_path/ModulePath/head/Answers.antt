@@ -9,4 +9,4 @@ unreachable-requires c κs = not-headless (c .as-bytes .result .now) (c .as-byte
 pub returns : need.returns
 returns c =
     subst (λ x. HeadOf x (c .in-Some .head)) (c .as-bytes .ensures .value)
-      (own-head (c .as-bytes .result .now) (c .in-Some .head) (c .as-bytes .ensures .valid) (c .in-Some .ensures tt))
+    (own-head (c .as-bytes .result .now) (c .in-Some .head) (c .as-bytes .ensures .valid) (c .in-Some .ensures tt))

@@ -19,11 +19,11 @@ ghost-result c =
     let b = c .args .sep .now in
     let d = c .args .back .now in
     let e : take (length a + length b + length d) (c .put-3 .last .out) ≡ a ++ (b ++ d) =
-      three-written a b d (replicate 255 0) (c .put .last .out) (c .put-2 .last .out) (c .put-3 .last .out) (omega arith) (c .put .ensures) (c .put-2 .ensures) (c .put-3 .ensures) in
+    three-written a b d (replicate 255 0) (c .put .last .out) (c .put-2 .last .out) (c .put-3 .last .out) (omega arith) (c .put .ensures) (c .put-2 .ensures) (c .put-3 .ensures) in
     let l : length (a ++ (b ++ d)) ≤ 255 = simp length-append (omega arith) in
     (omega arith, (subst (λ x. is-path x ≡ true) (sym e) (c .pre l), tt))
 
 pub returns : need.returns
 returns c =
     three-written (c .args .front .now) (c .args .sep .now) (c .args .back .now) (replicate 255 0) (c .put .last .out) (c .put-2 .last .out) (c .put-3 .last .out) (omega arith) (c .put .ensures)
-      (c .put-2 .ensures) (c .put-3 .ensures)
+    (c .put-2 .ensures) (c .put-3 .ensures)

@@ -1,0 +1,58 @@
+//! Reading and printing components.
+ghost use mathlib.Core.Path.{_≡_};
+ghost use mathlib.Core.Bool.{Bool, true, false};
+ghost use Prim.Native.Nat.{ℕ, _+_, _≤_, _<_};
+ghost use lib.ListN.{length, take, drop};
+ghost use Rattle.std.specs.Orderings.{Decides};
+ghost use Rattle.std.specs.Results.{Cases as ByOk};
+ghost use Rattle.wesl_path.specs.Components.{AreComponents, are-components};
+ghost use Rattle.wesl_path.specs.Texts.{components-text};
+use crate::cells::put;
+use crate::components::Components;
+use crate::fault::PathFault;
+use crate::name::test::is_plain;
+use crate::words::Step;
+use crate::words::pass;
+use crate::words::word_end;
+
+const LONGEST_PATH: usize = 255;
+
+/// Whether `text` is plain names parted by `::`.
+pub fn are_components(text: &[u8]) -> bool
+    ensures { λ r. ⌜ Decides r (AreComponents (now (text .entry))) ⌝ }
+{
+    if text.len() > LONGEST_PATH {
+        return false;
+    }
+    let end = word_end(text, 0);
+    if !is_plain(&text[0..end]) {
+        return false;
+    }
+    pass(text, end, Step::Component, usize::MAX).end == text.len()
+}
+
+impl Components {
+    /// Reads components, or refuses bytes that are none.
+    pub fn read(text: &[u8]) -> Result<Components, PathFault>
+        ensures { λ r. ⌜ ByOk r (λ m. components-text m ≡ now (text .entry)) (λ e. (e ≡ PathFault.Malformed) × (AreComponents (now (text .entry)) → ⊥)) ⌝ }
+    {
+        if !are_components(text) {
+            return Err(PathFault::Malformed);
+        }
+        let mut bytes = [0u8; LONGEST_PATH];
+        put(&mut bytes, 0, text);
+        Ok(Components {
+            bytes,
+            len: text.len(),
+        })
+    }
+
+    /// The bytes that the components are written as.
+    pub fn as_bytes(&self) -> &[u8]
+        ensures value { λ r. ⌜ now r ≡ components-text (now (self .entry)) ⌝ }
+        ensures valid { λ r. ⌜ are-components (now r) ≡ true ⌝ }
+    {
+        let len = self.len;
+        &self.bytes[0..len]
+    }
+}

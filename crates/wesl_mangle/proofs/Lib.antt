@@ -6,3 +6,4 @@ pub mod Escapes
 pub mod EscapeNames
 pub mod Counts
 pub mod CountNames
+pub mod WriteFacts

@@ -4,7 +4,7 @@ use mathlib.Core.Path.{_≡_, refl, sym, ap, subst, _∙_}
 use mathlib.Core.Bool.{Bool, true, false, cond, _&&_, _||_}
 use mathlib.Core.Logic.{inl, inr}
 use mathlib.Core.List.{List, [], _∷_, _++_}
-use Prim.Native.Nat.{ℕ, zero, suc, _+_, _≤_, _<_}
+use Prim.Native.Nat.{ℕ, zero, suc, _+_, _-_, _≤_, _<_}
 use native.Mathlib.Nat.{add-zero, zero-add}
 use native.Mathlib.Numerals.{one-add}
 use lib.Dec.{leb, eqb}
@@ -13,7 +13,7 @@ use lib.Chars.{codes}
 use Rattle.std.specs.Orderings.{Decides}
 use Rattle.std.specs.shelf.Lists.{All, countBy}
 use Rattle.std.specs.shelf.Text.{sameBytes}
-use Rattle.std.proofs.shelf.Lists.{append-assoc, append-nil, take-at, drop-at, length-append}
+use Rattle.std.proofs.shelf.Lists.{append-assoc, append-nil, take-at, drop-at, drop-drop, drop-all, nil-from-length}
 use Rattle.std.proofs.shelf.Sums.{sumBy-append, sumBy-cons}
 use Rattle.std.proofs.shelf.Tests.{and-parts, and-from, or-parts, cond-true, cond-false, leb-true, le-leb}
 use Rattle.std.proofs.shelf.Ways.{tells, decides-by-and, decides-eqb}
@@ -44,10 +44,10 @@ use Rattle.wesl_path.specs.Path.{
   plain-origin,
   is-path,
 }
-use Rattle.wesl_path.specs.Words.{Boundary, lead-of, Fits}
+use Rattle.wesl_path.specs.Words.{first-word, after-word, Boundary, lead-of}
 use Rattle.wesl_path.specs.declared.words.Step.{Step}
 use Rattle.wesl_path.specs.declared.words.Step.the-variants.{Part, Super, Component}
-use Rattle.wesl_path.proofs.WordFacts.{Inner, plain-inner, plain-starts, plain-free, led-edge}
+use Rattle.wesl_path.proofs.WordFacts.{Inner, plain-inner, plain-starts, plain-free, led-edge, first-inner, after-edge, word-parts}
 
 -- a word that has a byte, and none that parts words
 pub record Solid (w : List ℕ) : Type 0 where
@@ -74,16 +74,51 @@ keeps-some : (w : List ℕ) (ws : List (List ℕ)) → 0 < length w → without-
 keeps-some [] ws h = absurd (omega arith)
 keeps-some (b ∷ w) ws h = refl
 
+-- a byte that parts words is passed over
+words-skip : (bs : List ℕ) → Boundary bs → words bs ≡ words (drop 1 bs)
+unfolding words
+words-skip [] k = refl
+words-skip (b ∷ bs) k = rw k
+
 -- the words of a text are its first word and those of the rest
 pub words-front : (w rest : List ℕ) → Solid w → Boundary rest → words (w ++ rest) ≡ w ∷ words rest
 unfolding words
-words-front w [] h k =
-    ap without-empty (ap pieces (append-nil w) ∙ pieces-all w (h .inner)) ∙ keeps-some w [] (h .some)
+words-front w [] h k = ap without-empty (ap pieces (append-nil w) ∙ pieces-all w (h .inner)) ∙ keeps-some w [] (h .some)
 words-front w (b ∷ rest) h k =
-    ap without-empty (pieces-at w b rest (h .inner) k) ∙ (keeps-some w (pieces rest) (h .some) ∙ ap (λ x. w ∷ x) (sym (skips b rest k)))
-  where
-    skips : (b : ℕ) (rest : List ℕ) → parts-words b ≡ true → without-empty (pieces (b ∷ rest)) ≡ without-empty (pieces rest)
-    skips b rest k = rw k
+    ap without-empty (pieces-at w b rest (h .inner) k) ∙ (keeps-some w (pieces rest) (h .some) ∙ ap (λ x. w ∷ x) (sym (words-skip (b ∷ rest) k)))
+
+-- The words from an index on, for a loop that goes from word to word.
+module _ (text : List ℕ) (i stop : ℕ) (end : stop ≡ i + length (first-word (drop i text))) where
+  after-stop : drop stop text ≡ after-word (drop i text)
+  after-stop =
+      ap (λ k. drop k text) end
+        ∙ (sym (drop-drop (length (first-word (drop i text))) i text)
+        ∙ (ap (drop (length (first-word (drop i text)))) (sym (word-parts (drop i text))) ∙ drop-at (first-word (drop i text)) (after-word (drop i text)) _ refl))
+
+  words-left : words (after-word (drop i text)) ≡ words (drop (stop + 1) text)
+  words-left =
+      words-skip (after-word (drop i text)) (after-edge (drop i text)) ∙ ap words (ap (drop 1) (sym after-stop) ∙ drop-drop 1 stop text)
+
+  pub word-here : take (stop - i) (drop i text) ≡ first-word (drop i text)
+  word-here =
+      let k : length (first-word (drop i text)) ≡ stop - i = omega (arith, end) in
+      ap (take (stop - i)) (sym (word-parts (drop i text))) ∙ take-at (first-word (drop i text)) (after-word (drop i text)) (stop - i) k
+
+  pub words-more : i < stop → words (drop i text) ≡ take (stop - i) (drop i text) ∷ words (drop (stop + 1) text)
+  words-more h =
+      let s : Solid (first-word (drop i text)) = record { inner = first-inner (drop i text); some = omega (arith, end) } in
+      ap words (sym (word-parts (drop i text)))
+        ∙ (words-front (first-word (drop i text)) (after-word (drop i text)) s (after-edge (drop i text))
+        ∙ (ap (λ x. x ∷ words (after-word (drop i text))) (sym word-here) ∙ ap (λ x. take (stop - i) (drop i text) ∷ x) words-left))
+
+  pub words-same : stop ≤ i → words (drop i text) ≡ words (drop (stop + 1) text)
+  words-same h =
+      let none : first-word (drop i text) ≡ [] = nil-from-length (first-word (drop i text)) (omega (arith, end)) in
+      ap words (sym (word-parts (drop i text)) ∙ ap (λ x. x ++ after-word (drop i text)) none) ∙ words-left
+
+pub words-none : (text : List ℕ) (i : ℕ) → length text ≤ i → words (drop i text) ≡ []
+unfolding words
+words-none text i h = ap words (drop-all i text h)
 
 pub words-after-lead : (s : Step) (bs : List ℕ) → words (lead-of s ++ bs) ≡ words bs
 unfolding words

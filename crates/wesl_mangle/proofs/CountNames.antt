@@ -10,8 +10,7 @@ use Rattle.std.specs.shelf.Lists.{joined}
 use Rattle.std.proofs.shelf.Lists.{length-append}
 use Rattle.std.proofs.shelf.Decimals.{length-decimal-le}
 use Rattle.wesl_path.specs.Name.{digit, letter, word-byte, word-bytes, starts-well}
-use Rattle.wesl_path.specs.Path.{Origin, absolute, relative, packaged, Path, Sound}
-use Rattle.wesl_mangle.specs.Mangle.{origin-words}
+use Rattle.wesl_path.specs.Path.{Origin, absolute, relative, packaged, Path, Sound, origin-words}
 use Rattle.wesl_mangle.specs.Counted.{counted, counted-origin, package-parts}
 use Rattle.wesl_mangle.specs.Laws.{Lengths-named}
 use Rattle.wesl_mangle.proofs.Texts.{Word, word-from-plain, words-from-plain, word-countable, word-bytes-append, word-bytes-joined}

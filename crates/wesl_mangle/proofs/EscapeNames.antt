@@ -14,8 +14,7 @@ use Rattle.std.proofs.shelf.Lists.{length-append}
 use Rattle.std.proofs.shelf.Tests.{cases-bool, cond-true, cond-false}
 use Rattle.std.proofs.shelf.Decimals.{length-decimal-le}
 use Rattle.wesl_path.specs.Name.{digit, letter, word-byte, word-bytes, starts-well}
-use Rattle.wesl_path.specs.Path.{Origin, absolute, relative, packaged}
-use Rattle.wesl_mangle.specs.Mangle.{origin-words, path-words}
+use Rattle.wesl_path.specs.Path.{Origin, absolute, relative, packaged, origin-words, path-words}
 use Rattle.wesl_mangle.specs.Escape.{underscores, escaped, package-lead}
 use Rattle.wesl_mangle.specs.Laws.{Escape-named}
 use Rattle.wesl_mangle.proofs.Texts.{Word, word-from-plain, path-words-words, starts-well-append, word-bytes-append, word-bytes-joined}

@@ -17,8 +17,8 @@ use Rattle.std.proofs.shelf.Sums.{sumBy-cons, countBy-le-length}
 use Rattle.std.proofs.shelf.Tests.{true≢false, not-true, cases-bool, cond-true, cond-false, eqb-true}
 use Rattle.std.proofs.shelf.Decimals.{decimal-some}
 use Rattle.wesl_path.specs.Name.{digit, starts-well, Plain}
-use Rattle.wesl_path.specs.Path.{Origin, absolute, relative, packaged, Path, Sound, led}
-use Rattle.wesl_mangle.specs.Mangle.{origin-words, path-words, ended-item, in-package}
+use Rattle.wesl_path.specs.Path.{Origin, absolute, relative, packaged, Path, Sound, led, origin-words, path-words}
+use Rattle.wesl_mangle.specs.Mangle.{ended-item, in-package}
 use Rattle.wesl_mangle.specs.Escape.{underscores, escaped, package-lead, escape}
 use Rattle.wesl_mangle.specs.Escape.{fresh, counting, inside, unescaped, numbered, after-super, after-import, item-of, unescape}
 use Rattle.wesl_mangle.specs.Laws.{Escape-goes-back, Escape-apart, Escape-as-words}

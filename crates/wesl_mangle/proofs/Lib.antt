@@ -7,3 +7,4 @@ pub mod EscapeNames
 pub mod Counts
 pub mod CountNames
 pub mod WriteFacts
+pub mod PathWords

@@ -7,8 +7,7 @@ use lib.Chars.{codes}
 use lib.ListN.{length, replicate}
 use Rattle.std.specs.shelf.Lists.{All, joined}
 use Rattle.std.proofs.shelf.Lists.{length-append, length-replicate}
-use Rattle.wesl_path.specs.Path.{Origin, absolute, relative, packaged, Path, Sound, led, shown-origin, shown}
-use Rattle.wesl_mangle.specs.Mangle.{origin-words, path-words}
+use Rattle.wesl_path.specs.Path.{Origin, absolute, relative, packaged, Path, Sound, led, shown-origin, shown, origin-words, path-words}
 use Rattle.wesl_mangle.proofs.Texts.{Word, word-some}
 
 -- the bytes of some words, and one more for each

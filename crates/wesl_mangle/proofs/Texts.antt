@@ -11,8 +11,7 @@ use Rattle.std.specs.shelf.Text.{sameBytes}
 use Rattle.std.proofs.shelf.Elements.{all-append, all-weaker}
 use Rattle.std.proofs.shelf.Tests.{true≢false, and-parts, and-from, or-parts, not-true, leb-true}
 use Rattle.wesl_path.specs.Name.{digit, letter, word-byte, word-bytes, starts-well, reserved, plain, Plain}
-use Rattle.wesl_path.specs.Path.{Origin, absolute, relative, packaged, Path, PlainOrigin, Sound}
-use Rattle.wesl_mangle.specs.Mangle.{origin-words, path-words}
+use Rattle.wesl_path.specs.Path.{Origin, absolute, relative, packaged, Path, PlainOrigin, Sound, origin-words, path-words}
 
 -- what all words of a path are, the reserved ones too
 pub record Word (w : List ℕ) : Type 0 where

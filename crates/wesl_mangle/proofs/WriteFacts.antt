@@ -6,6 +6,7 @@ use mathlib.Core.List.{List, [], _∷_, _++_}
 use Prim.Native.Nat.{ℕ, _+_, _-_, _*_, _/_, _%_, _^_, _≤_, _<_}
 use native.Mathlib.Numerals.{one-add}
 use lib.Dec.{eqb}
+use lib.Chars.{codes}
 use lib.ListN.{length, take, drop}
 use Rattle.std.specs.Written.{decimal}
 use Rattle.std.specs.shelf.Lists.{joined}
@@ -79,3 +80,10 @@ words-written st w done new cell ws end next all e h a =
 
 pub words-length : (st : List ℕ → List ℕ) (w : List ℕ) (all ws : List (List ℕ)) → all ≡ w ∷ ws → length (joined st all) ≡ length (st w) + length (joined st ws)
 words-length st w all ws e = ap (λ x. length (joined st x)) e ∙ length-append (st w) (joined st ws)
+
+pub numbered-length : (front : List ℕ) (n : ℕ) → length (front ++ (decimal n ++ codes "_")) ≡ length front + (length (decimal n) + 1)
+numbered-length front n = length-append front (decimal n ++ codes "_") ∙ ap (λ k. length front + k) (length-append (decimal n) (codes "_"))
+
+-- three texts one after another at the front of a cell
+pub appended-three : (a b d was o₁ o₂ o₃ : List ℕ) (r s t : ℕ) (all : List ℕ) → a ++ (b ++ d) ≡ all → Appended a was o₁ 0 r → Appended b o₁ o₂ r s → Appended d o₂ o₃ s t → Appended all was o₃ 0 t
+appended-three a b d was o₁ o₂ o₃ r s t all e x y z = appended-as all (append-assoc a b d ∙ e) (appended-more d o₃ t (appended-more b o₂ s x y) z)

@@ -4,8 +4,8 @@ use mathlib.Core.List.{List, [], _∷_, _++_}
 use Prim.Native.Nat.{ℕ}
 use Rattle.std.specs.shelf.Lists.{joined}
 use Rattle.wesl_path.specs.Name.{Plain}
-use Rattle.wesl_path.specs.Path.{Path, Sound}
-use Rattle.wesl_mangle.specs.Mangle.{Item, Identifier, path-words}
+use Rattle.wesl_path.specs.Path.{Path, Sound, path-words}
+use Rattle.wesl_mangle.specs.Mangle.{Item, Identifier}
 use Rattle.wesl_mangle.specs.Escape.{escape, escaped, package-lead, unescape}
 use Rattle.wesl_mangle.specs.Counted.{by-lengths, from-lengths}
 

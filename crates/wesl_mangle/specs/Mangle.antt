@@ -19,17 +19,6 @@ pub record Identifier (bs : List ℕ) : Type 0 where
   pub bytes : word-bytes bs ≡ true
   pub short : length bs ≤ 1024
 
--- the words of an origin as they are written, without what parts them
-abbrev pub origin-words : Origin → List (List ℕ)
-origin-words absolute = codes "package" ∷ []
-origin-words (relative zero) = codes "self" ∷ []
-origin-words (relative (suc n)) = codes "super" ∷ replicate n (codes "super")
-origin-words (packaged part more) = part ∷ more
-
--- all words of a path
-abbrev pub path-words : Path → List (List ℕ)
-path-words p = origin-words (p .origin) ++ p .components
-
 -- the number that a digit more makes
 abbrev pub shifted : ℕ → ℕ → ℕ
 shifted n b = n * 10 + (b - 48)

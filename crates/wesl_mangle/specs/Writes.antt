@@ -39,6 +39,12 @@ counted-kind Absolute = codes "p"
 counted-kind (Relative n) = codes "r" ++ (decimal n ++ codes "_")
 counted-kind (Package n) = codes "k" ++ (decimal n ++ codes "_")
 
+-- where the words begin that the mangling by lengths writes
+abbrev pub words-from : PathOrigin → ℕ → ℕ
+words-from Absolute end = end
+words-from (Relative n) end = end
+words-from (Package n) end = 0
+
 -- how far up or how many parts
 abbrev pub count-of-kind : PathOrigin → ℕ
 count-of-kind Absolute = 0

@@ -1,7 +1,13 @@
 //! Manglers: names for the declarations of all modules in one output.
-ghost use Rattle.wesl_mangle.specs.Laws.{Escape-goes-back, Escape-apart, Escape-named, Escape-as-words};
-ghost use Rattle.wesl_mangle.specs.Laws.{Lengths-go-back, Lengths-apart, Lengths-named};
-ghost use Rattle.wesl_mangle.specs.Examples.{Worked};
-
+pub mod escape;
 pub mod fault;
+pub mod lengths;
+pub mod mangler;
 pub mod write;
+
+pub use escape::EscapeMangler;
+pub use escape::EscapeMangling;
+pub use fault::MangleFault;
+pub use lengths::LengthMangler;
+pub use lengths::LengthMangling;
+pub use mangler::Mangler;

@@ -2,6 +2,7 @@
 ghost use mathlib.Core.Path.{_≡_};
 ghost use mathlib.Core.List.{List, [], _∷_, _++_};
 ghost use Prim.Native.Nat.{ℕ, _+_, _≤_, _<_};
+ghost use lib.Chars.{codes};
 ghost use lib.ListN.{length, take, drop};
 ghost use Rattle.std.specs.Written.{decimal};
 ghost use Rattle.std.specs.shelf.Lists.{joined};
@@ -46,6 +47,17 @@ pub fn append_decimal(cell: &mut [u8], at: usize, n: usize) -> usize
     } else {
         append(cell, at, &digits[2..3])
     }
+}
+
+/// Writes a text, a number and `_` at the front of the cell.
+pub fn append_numbered(cell: &mut [u8], front: &[u8], n: usize) -> usize
+    requires small { ⌜ n < 1000 ⌝ }
+    requires room { ⌜ length (now front ++ (decimal n ++ codes "_")) ≤ length (now cell) ⌝ }
+    ensures { λ r. ⌜ Appended (now (front .entry) ++ (decimal n ++ codes "_")) (now (cell .entry)) (now (cell .exit)) 0 r ⌝ }
+{
+    let led = append(cell, 0, front);
+    let told = append_decimal(cell, led, n);
+    append(cell, told, b"_")
 }
 
 /// How many underscores a word has.

@@ -19,7 +19,7 @@ use Rattle.std.proofs.shelf.Tests.{and-parts, and-from, or-parts, cond-true, co
 use Rattle.std.proofs.shelf.Ways.{tells, decides-by-and, decides-eqb}
 use Rattle.std.proofs.shelf.Equals.{sameBytes-decides}
 use Rattle.wesl_path.specs.Name.{word-bytes, starts-well, reserved, plain, Plain}
-use Rattle.wesl_path.specs.Path.{
+use Rattle.wesl_path.specs.Path.{origin-words, path-words, 
   Origin,
   absolute,
   relative,
@@ -206,45 +206,55 @@ supers-count m (suc n) cs h =
 of-part : (n : ℕ) (w : List ℕ) (ws : List (List ℕ)) → Free w → of-words n (w ∷ ws) ≡ record { origin = packaged w (take n ws); components = drop n ws }
 of-part n w ws f = let a = f .package′ in let b = f .self′ in let d = f .super′ in rw (a, b, d)
 
+-- the words of a printed path
+words-shown : (o : Origin) (cs : List (List ℕ)) → PlainOrigin o → All Plain cs → words (shown (record { origin = o; components = cs })) ≡ origin-words o ++ cs
+unfolding shown
+words-shown absolute cs ho hc =
+    words-front (codes "package") (led (codes "::") cs) (record { inner = (refl, (refl, (refl, (refl, (refl, (refl, (refl, tt))))))); some = omega arith }) (components-edge cs)
+      ∙ ap (λ x. codes "package" ∷ x) (words-components cs hc)
+words-shown (relative zero) cs ho hc =
+    words-front (codes "self") (led (codes "::") cs) (record { inner = (refl, (refl, (refl, (refl, tt)))); some = omega arith }) (components-edge cs)
+      ∙ ap (λ x. codes "self" ∷ x) (words-components cs hc)
+words-shown (relative (suc n)) cs ho hc =
+    let more = led (codes "::") (replicate n (codes "super")) in
+    ap words (append-assoc (codes "super") more (led (codes "::") cs))
+      ∙ (words-front (codes "super") (more ++ led (codes "::") cs) super-solid (led-edge Super (replicate n (codes "super")) _ (components-edge cs))
+      ∙ ap (λ x. codes "super" ∷ x) (words-led Super (replicate n (codes "super")) _ (supers-solid n) (components-edge cs) ∙ ap (λ x. replicate n (codes "super") ++ x) (words-components cs hc)))
+words-shown (packaged part more) cs ho hc =
+    ap words (append-assoc part (led (codes "/") more) (led (codes "::") cs))
+      ∙ (words-front part (led (codes "/") more ++ led (codes "::") cs) (plain-solid part (ho .0)) (led-edge Part more _ (components-edge cs))
+      ∙ ap (λ x. part ∷ x) (words-led Part more _ (plain-solids more (ho .1)) (components-edge cs) ∙ ap (λ x. more ++ x) (words-components cs hc)))
+
+-- the slashes of a printed path part its package's name
+slashes-shown : (part : List ℕ) (more cs : List (List ℕ)) → Plain part → All Plain more → All Plain cs
+  → slashes (shown (record { origin = packaged part more; components = cs })) ≡ length more
+unfolding shown
+slashes-shown part more cs hp hm hc =
+    slashes-append (part ++ led (codes "/") more) (led (codes "::") cs)
+      ∙ (let a = slashes-append part (led (codes "/") more) in
+         let b = slashes-inner part (plain-inner part hp) in
+         let d = slashes-parts more (plain-solids more hm) in
+         let e = slashes-components cs (plain-solids cs hc) in
+         omega (arith, a, b, d, e))
+
 -- what is printed is read back
 pub path-back : (p : Path) → PlainOrigin (p .origin) → All Plain (p .components) → path-of (shown p) ≡ p
-unfolding path-of shown
+unfolding path-of
 path-back p ho hc = by-origin (p .origin) (p .components) ho hc
   where
     by-origin : (o : Origin) (cs : List (List ℕ)) → PlainOrigin o → All Plain cs → path-of (shown (record { origin = o; components = cs })) ≡ record { origin = o; components = cs }
-    by-origin absolute cs ho hc =
-        ap (of-words _) (words-front (codes "package") (led (codes "::") cs) (record { inner = (refl, (refl, (refl, (refl, (refl, (refl, (refl, tt))))))); some = omega arith }) (components-edge cs)
-        ∙ ap (λ x. codes "package" ∷ x) (words-components cs hc))
-    by-origin (relative zero) cs ho hc =
-        ap (of-words _) (words-front (codes "self") (led (codes "::") cs) (record { inner = (refl, (refl, (refl, (refl, tt)))); some = omega arith }) (components-edge cs)
-        ∙ ap (λ x. codes "self" ∷ x) (words-components cs hc))
+    by-origin absolute cs ho hc = ap (of-words _) (words-shown absolute cs ho hc)
+    by-origin (relative zero) cs ho hc = ap (of-words _) (words-shown (relative zero) cs ho hc)
     by-origin (relative (suc n)) cs ho hc =
-        let more = led (codes "::") (replicate n (codes "super")) in
-        ap (of-words _) (ap words (append-assoc (codes "super") more (led (codes "::") cs))
-        ∙ (words-front (codes "super") (more ++ led (codes "::") cs) super-solid (led-edge Super (replicate n (codes "super")) _ (components-edge cs))
-        ∙ ap (λ x. codes "super" ∷ x) (words-led Super (replicate n (codes "super")) _ (supers-solid n) (components-edge cs)
-        ∙ ap (λ x. replicate n (codes "super") ++ x) (words-components cs hc))))
-        ∙ (supers-count 1 n cs hc ∙ ap (λ k. record { origin = relative k; components = cs }) (let e : n + 1 ≡ suc n = omega arith in e))
+        ap (of-words _) (words-shown (relative (suc n)) cs ho hc)
+          ∙ (supers-count 1 n cs hc ∙ ap (λ k. record { origin = relative k; components = cs }) (let e : n + 1 ≡ suc n = omega arith in e))
     by-origin (packaged part more) cs ho hc =
-        let s = plain-solids more (ho .1) in
-        let text = (part ++ led (codes "/") more) ++ led (codes "::") cs in
-        let k : slashes text ≡ length more =
-        slashes-append (part ++ led (codes "/") more) (led (codes "::") cs)
-        ∙ (let a = slashes-append part (led (codes "/") more) in
-        let b = slashes-inner part (plain-inner part (ho .0)) in
-        let d = slashes-parts more s in
-        let e = slashes-components cs (plain-solids cs hc) in
-        omega (arith, a, b, d, e)) in
-        let w : words text ≡ part ∷ (more ++ cs) =
-        ap words (append-assoc part (led (codes "/") more) (led (codes "::") cs))
-        ∙ (words-front part (led (codes "/") more ++ led (codes "::") cs) (plain-solid part (ho .0)) (led-edge Part more _ (components-edge cs))
-        ∙ ap (λ x. part ∷ x) (words-led Part more _ s (components-edge cs) ∙ ap (λ x. more ++ x) (words-components cs hc))) in
-        ap (λ n. of-words n (words text)) k
-        ∙ (ap (of-words (length more)) w
-        ∙ (of-part (length more) part (more ++ cs) (plain-is-free part (ho .0))
-        ∙ (let t = take-at more cs (length more) refl in
-        let d = drop-at more cs (length more) refl in
-        rw (t, d))))
+        ap (λ n. of-words n (words (shown (record { origin = packaged part more; components = cs })))) (slashes-shown part more cs (ho .0) (ho .1) hc)
+          ∙ (ap (of-words (length more)) (words-shown (packaged part more) cs ho hc)
+          ∙ (of-part (length more) part (more ++ cs) (plain-is-free part (ho .0))
+          ∙ (let t = take-at more cs (length more) refl in
+             let d = drop-at more cs (length more) refl in
+             rw (t, d))))
 
 pub all-plain-decides : (ws : List (List ℕ)) → Decides (all-plain ws) (All Plain ws)
 all-plain-decides = decides-by-and plain Plain all-plain (λ w. ((λ e. e), (λ e. e))) refl (λ _ _. refl)
@@ -288,3 +298,9 @@ is-path-decides bs = (
   (λ e. let p = path-from-test bs e in record { path = path-of bs; sound = p .0; printed = p .1 }),
   (λ h. subst (λ x. is-path x ≡ true) (h .printed) (test-from-path (h .path) (h .sound))),
 )
+
+-- the words of a path's text
+pub words-of-path : (bs : List ℕ) → is-path bs ≡ true → words bs ≡ path-words (path-of bs)
+words-of-path bs valid =
+    let p = path-from-test bs valid in
+    ap words (sym (p .1)) ∙ words-shown (path-of bs .origin) (path-of bs .components) (p .0 .origin) (p .0 .components)

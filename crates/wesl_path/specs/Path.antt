@@ -75,6 +75,17 @@ join-path p q = joined-from p (q .origin) (q .components)
 abbrev pub extended : Path → List (List ℕ) → Path
 extended p cs = record { origin = p .origin; components = p .components ++ cs }
 
+-- the words of an origin as they are written, without what parts them
+abbrev pub origin-words : Origin → List (List ℕ)
+origin-words absolute = codes "package" ∷ []
+origin-words (relative zero) = codes "self" ∷ []
+origin-words (relative (suc n)) = codes "super" ∷ replicate n (codes "super")
+origin-words (packaged part more) = part ∷ more
+
+-- all words of a path
+abbrev pub path-words : Path → List (List ℕ)
+path-words p = origin-words (p .origin) ++ p .components
+
 -- The way back from bytes to the path.
 
 -- the bytes that part words, `:` and `/`

@@ -62,13 +62,13 @@ kind-small text k valid e =
 
 -- the words that the mangling by lengths writes
 pub words-counted : (text : List ℕ) (h : Head) → is-path text ≡ true → HeadOf text h
-  → words (drop (words-from (h .origin) (h .end)) text) ≡ package-parts (path-of text .origin) ++ path-of text .components
+    → words (drop (words-from (h .origin) (h .end)) text) ≡ package-parts (path-of text .origin) ++ path-of text .components
 words-counted text h valid head =
     let p = path-from-test text valid .0 in
     by (path-of text .origin) (h .origin) (head .kind) (words-of-path text valid) (ap words (head .back) ∙ words-components (path-of text .components) (p .components))
   where
     by : (o : Origin) (k : PathOrigin) → k ≡ kind-of o → words text ≡ origin-words o ++ path-of text .components → words (drop (h .end) text) ≡ path-of text .components
-      → words (drop (words-from k (h .end)) text) ≡ package-parts o ++ path-of text .components
+        → words (drop (words-from k (h .end)) text) ≡ package-parts o ++ path-of text .components
     by absolute k e all rest = ap (λ x. words (drop (words-from x (h .end)) text)) e ∙ rest
     by (relative n) k e all rest = ap (λ x. words (drop (words-from x (h .end)) text)) e ∙ rest
     by (packaged part more) k e all rest = ap (λ x. words (drop (words-from x (h .end)) text)) e ∙ all
@@ -91,20 +91,20 @@ name-short item name e = let l = plain-short (name-text item) (item .ok) in let 
 
 module _ (path : ModulePath) (item : PlainName) (text name : List ℕ) (e : text ≡ path-text path) (f : name ≡ name-text item) where
   pub escape-pieces : (k : PathOrigin) → k ≡ kind-of (path-value path .origin)
-    → Pieces (lead-of-kind k) (joined (styled Escaped) (words text)) (escaped name) (escape (path-value path) (name-text item))
+      → Pieces (lead-of-kind k) (joined (styled Escaped) (words text)) (escaped name) (escape (path-value path) (name-text item))
   escape-pieces k g =
       let p = path-value path in
       let i = name-text item in
       let lead : lead-of-kind k ≡ package-lead (p .origin) = ap lead-of-kind g ∙ sym (lead-is (p .origin)) in
       let ws : words text ≡ path-words p = ap words e ∙ words-of-path (path-text path) (path .valid) in
       pieces _ _ _ (escape p i)
-        (ap (λ x. x ++ (joined (styled Escaped) (words text) ++ escaped name)) lead
-          ∙ (ap (λ x. package-lead (p .origin) ++ (joined (styled Escaped) x ++ escaped name)) ws
-          ∙ (ap (λ x. package-lead (p .origin) ++ (joined (styled Escaped) (path-words p) ++ escaped x)) f ∙ sym (escape-as-words p i))))
-        (escape-named p i (path-from-test (path-text path) (path .valid) .0) (item .ok) .short)
+      (ap (λ x. x ++ (joined (styled Escaped) (words text) ++ escaped name)) lead
+      ∙ (ap (λ x. package-lead (p .origin) ++ (joined (styled Escaped) x ++ escaped name)) ws
+      ∙ (ap (λ x. package-lead (p .origin) ++ (joined (styled Escaped) (path-words p) ++ escaped x)) f ∙ sym (escape-as-words p i))))
+      (escape-named p i (path-from-test (path-text path) (path .valid) .0) (item .ok) .short)
 
   pub lengths-pieces : (h : Head) → HeadOf (path-text path) h
-    → Pieces (counted-kind (h .origin)) (joined (styled Counted) (words (drop (words-from (h .origin) (h .end)) text))) (counted name) (by-lengths (path-value path) (name-text item))
+      → Pieces (counted-kind (h .origin)) (joined (styled Counted) (words (drop (words-from (h .origin) (h .end)) text))) (counted name) (by-lengths (path-value path) (name-text item))
   lengths-pieces h head =
       let p = path-value path in
       let i = name-text item in
@@ -112,7 +112,7 @@ module _ (path : ModulePath) (item : PlainName) (text name : List ℕ) (e : text
       let lead : counted-kind (h .origin) ≡ counted-origin (p .origin) = ap counted-kind (head .kind) ∙ sym (counted-is (p .origin)) in
       let ws : words (drop from text) ≡ package-parts (p .origin) ++ p .components = ap (λ x. words (drop from x)) e ∙ words-counted (path-text path) h (path .valid) head in
       pieces _ _ _ (by-lengths p i)
-        (ap (λ x. x ++ (joined (styled Counted) (words (drop from text)) ++ counted name)) lead
-          ∙ (ap (λ x. counted-origin (p .origin) ++ (joined (styled Counted) x ++ counted name)) ws
-          ∙ (ap (λ x. counted-origin (p .origin) ++ (joined (styled Counted) (package-parts (p .origin) ++ p .components) ++ counted x)) f ∙ sym (lengths-as-words p i))))
-        (lengths-named p i (path-from-test (path-text path) (path .valid) .0) (item .ok) .short)
+      (ap (λ x. x ++ (joined (styled Counted) (words (drop from text)) ++ counted name)) lead
+      ∙ (ap (λ x. counted-origin (p .origin) ++ (joined (styled Counted) x ++ counted name)) ws
+      ∙ (ap (λ x. counted-origin (p .origin) ++ (joined (styled Counted) (package-parts (p .origin) ++ p .components) ++ counted x)) f ∙ sym (lengths-as-words p i))))
+      (lengths-named p i (path-from-test (path-text path) (path .valid) .0) (item .ok) .short)

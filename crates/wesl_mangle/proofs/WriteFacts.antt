@@ -9,13 +9,19 @@ use lib.Dec.{eqb}
 use lib.Chars.{codes}
 use lib.ListN.{length, take, drop}
 use Rattle.std.specs.Written.{decimal}
+use Rattle.std.specs.Vec.{made}
+use Rattle.std.specs.declared.result.Result.{Result}
+use Rattle.std.specs.declared.result.Result.the-variants.{Ok, Err}
 use Rattle.std.specs.shelf.Lists.{joined}
 use Rattle.std.proofs.shelf.Lists.{append-assoc, append-nil, length-append, length-take-le, take-at}
 use Rattle.std.proofs.shelf.Decimals.{decimal-digit, decimal-step}
 use Rattle.std.proofs.shelf.Tests.{eq-eqb, ne-eqb, cond-true, cond-false}
 use Rattle.wesl_mangle.specs.Escape.{underscores, escaped}
 use Rattle.wesl_mangle.specs.Counted.{counted}
-use Rattle.wesl_mangle.specs.Writes.{Appended}
+use Rattle.wesl_mangle.specs.Mangle.{Item}
+use Rattle.wesl_mangle.specs.Writes.{Appended, Answered}
+use Rattle.wesl_mangle.specs.declared.fault.MangleFault.{MangleFault}
+use Rattle.wesl_mangle.specs.declared.fault.MangleFault.the-variants.{NoRoom}
 
 pub appended-put : (bs was new : List ℕ) (at : ℕ) → at ≤ length was → new ≡ take at was ++ (bs ++ drop (at + length bs) was) → Appended bs was new at (at + length bs)
 appended-put bs was new at h e =
@@ -74,7 +80,7 @@ escaped-some-length w e = ap length (escaped-some w e) ∙ (sym (one-add _) ∙ 
 
 -- one word more of those that are yet to come, for a loop over the words of a text
 pub words-written : (st : List ℕ → List ℕ) (w done new cell : List ℕ) (ws : List (List ℕ)) (end next : ℕ) (all : List (List ℕ)) → all ≡ w ∷ ws
-  → take end cell ++ joined st all ≡ done → Appended (st w) cell new end next → take next new ++ joined st ws ≡ done
+    → take end cell ++ joined st all ≡ done → Appended (st w) cell new end next → take next new ++ joined st ws ≡ done
 words-written st w done new cell ws end next all e h a =
     ap (λ x. x ++ joined st ws) (a .holds) ∙ (append-assoc (take end cell) (st w) (joined st ws) ∙ (ap (λ x. take end cell ++ joined st x) (sym e) ∙ h))
 
@@ -87,3 +93,10 @@ numbered-length front n = length-append front (decimal n ++ codes "_") ∙ ap (�
 -- three texts one after another at the front of a cell
 pub appended-three : (a b d was o₁ o₂ o₃ : List ℕ) (r s t : ℕ) (all : List ℕ) → a ++ (b ++ d) ≡ all → Appended a was o₁ 0 r → Appended b o₁ o₂ r s → Appended d o₂ o₃ s t → Appended all was o₃ 0 t
 appended-three a b d was o₁ o₂ o₃ r s t all e x y z = appended-as all (append-assoc a b d ∙ e) (appended-more d o₃ t (appended-more b o₂ s x y) z)
+
+-- what was delivered can be read back
+pub answered-back : (what was new : List ℕ) (r : Result ℕ MangleFault) (read : List ℕ → Item) (x : Item) → Answered what was new r → read what ≡ x → made r (λ n. read (take n new) ≡ x)
+answered-back what was new (Ok n) read x h e =
+    let l : length what ≡ n = sym (h .0) in
+    ap read (ap (take n) (h .2) ∙ take-at what (drop n was) n l) ∙ e
+answered-back what was new (Err NoRoom) read x h e = tt

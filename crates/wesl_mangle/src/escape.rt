@@ -3,9 +3,10 @@ ghost use mathlib.Core.Path.{_≡_};
 ghost use mathlib.Core.List.{List};
 ghost use Prim.Native.Nat.{ℕ, _+_, _≤_, _<_};
 ghost use lib.ListN.{length, take};
+ghost use Rattle.std.specs.Vec.{made};
 ghost use Rattle.wesl_path.specs.Texts.{path-value, name-text};
-ghost use Rattle.wesl_mangle.specs.Escape.{escape};
-ghost use Rattle.wesl_mangle.specs.Writes.{Appended, lead-of-kind, count-of-kind};
+ghost use Rattle.wesl_mangle.specs.Escape.{escape, unescape};
+ghost use Rattle.wesl_mangle.specs.Writes.{Answered, Appended, lead-of-kind, count-of-kind};
 use crate::fault::MangleFault;
 use crate::mangler::Mangler;
 use crate::write::WordStyle;
@@ -50,12 +51,27 @@ fn write_name(cell: &mut [u8], path: &ModulePath, item: &PlainName) -> usize
     append_escaped(cell, told, item.as_bytes())
 }
 
+fn give_name(path: &ModulePath, item: &PlainName, out: &mut [u8]) -> Result<usize, MangleFault>
+    ensures answer { λ r. ⌜ Answered (escape (path-value (now (path .entry))) (name-text (now (item .entry)))) (now (out .entry)) (now (out .exit)) r ⌝ }
+    ensures back { λ r. ⌜ made r (λ n. unescape (take n (now (out .exit))) ≡ record { path = path-value (now (path .entry)); name = name-text (now (item .entry)) }) ⌝ }
+{
+    let mut cell = [0u8; LONGEST];
+    let end = write_name(&mut cell, path, item);
+    deliver(&cell, end, out)
+}
+
 pub impl Mangler for EscapeMangler as EscapeMangling {
     ghost meaning = { λ _ p i. escape p i };
 
-    fn mangle(&self, path: &ModulePath, item: &PlainName, out: &mut [u8]) -> Result<usize, MangleFault> {
-        let mut cell = [0u8; LONGEST];
-        let end = write_name(&mut cell, path, item);
-        deliver(&cell, end, out)
+    fn mangle(
+        &self,
+        path: &ModulePath,
+        item: &PlainName,
+        out: &mut [u8],
+    ) -> Result<usize, MangleFault>
+        ensures answer { λ r. ⌜ Answered (escape (path-value (now (path .entry))) (name-text (now (item .entry)))) (now (out .entry)) (now (out .exit)) r ⌝ }
+        ensures back { λ r. ⌜ made r (λ n. unescape (take n (now (out .exit))) ≡ record { path = path-value (now (path .entry)); name = name-text (now (item .entry)) }) ⌝ }
+    {
+        give_name(path, item, out)
     }
 }

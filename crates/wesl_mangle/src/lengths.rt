@@ -3,9 +3,10 @@ ghost use mathlib.Core.Path.{_≡_};
 ghost use mathlib.Core.List.{List};
 ghost use Prim.Native.Nat.{ℕ, _+_, _≤_, _<_};
 ghost use lib.ListN.{length, take};
+ghost use Rattle.std.specs.Vec.{made};
 ghost use Rattle.wesl_path.specs.Texts.{path-value, name-text};
-ghost use Rattle.wesl_mangle.specs.Counted.{by-lengths};
-ghost use Rattle.wesl_mangle.specs.Writes.{Appended, counted-kind, count-of-kind, words-from};
+ghost use Rattle.wesl_mangle.specs.Counted.{by-lengths, from-lengths};
+ghost use Rattle.wesl_mangle.specs.Writes.{Answered, Appended, counted-kind, count-of-kind, words-from};
 use crate::fault::MangleFault;
 use crate::mangler::Mangler;
 use crate::write::WordStyle;
@@ -55,16 +56,37 @@ fn write_name(cell: &mut [u8], path: &ModulePath, item: &PlainName) -> usize
 {
     let head = path.head();
     let led = append_kind(cell, head.origin);
-    let told = append_words(WordStyle::Counted, path.as_bytes(), first_word(head), cell, led);
+    let told = append_words(
+        WordStyle::Counted,
+        path.as_bytes(),
+        first_word(head),
+        cell,
+        led,
+    );
     append_counted(cell, told, item.as_bytes())
+}
+
+fn give_name(path: &ModulePath, item: &PlainName, out: &mut [u8]) -> Result<usize, MangleFault>
+    ensures answer { λ r. ⌜ Answered (by-lengths (path-value (now (path .entry))) (name-text (now (item .entry)))) (now (out .entry)) (now (out .exit)) r ⌝ }
+    ensures back { λ r. ⌜ made r (λ n. from-lengths (take n (now (out .exit))) ≡ record { path = path-value (now (path .entry)); name = name-text (now (item .entry)) }) ⌝ }
+{
+    let mut cell = [0u8; LONGEST];
+    let end = write_name(&mut cell, path, item);
+    deliver(&cell, end, out)
 }
 
 pub impl Mangler for LengthMangler as LengthMangling {
     ghost meaning = { λ _ p i. by-lengths p i };
 
-    fn mangle(&self, path: &ModulePath, item: &PlainName, out: &mut [u8]) -> Result<usize, MangleFault> {
-        let mut cell = [0u8; LONGEST];
-        let end = write_name(&mut cell, path, item);
-        deliver(&cell, end, out)
+    fn mangle(
+        &self,
+        path: &ModulePath,
+        item: &PlainName,
+        out: &mut [u8],
+    ) -> Result<usize, MangleFault>
+        ensures answer { λ r. ⌜ Answered (by-lengths (path-value (now (path .entry))) (name-text (now (item .entry)))) (now (out .entry)) (now (out .exit)) r ⌝ }
+        ensures back { λ r. ⌜ made r (λ n. from-lengths (take n (now (out .exit))) ≡ record { path = path-value (now (path .entry)); name = name-text (now (item .entry)) }) ⌝ }
+    {
+        give_name(path, item, out)
     }
 }

@@ -21,6 +21,11 @@ pub trait Mangler {
     law named: { (m : Self) → Named (meaning m) };
 
     /// Writes the name to the front of `out` and answers its length, where it fits; else `out` stays as it is.
-    fn mangle(&self, path: &ModulePath, item: &PlainName, out: &mut [u8]) -> Result<usize, MangleFault>
+    fn mangle(
+        &self,
+        path: &ModulePath,
+        item: &PlainName,
+        out: &mut [u8],
+    ) -> Result<usize, MangleFault>
         ensures { λ r. ⌜ Answered (meaning (now (self .entry)) (path-value (now (path .entry))) (name-text (now (item .entry)))) (now (out .entry)) (now (out .exit)) r ⌝ };
 }

@@ -16,7 +16,7 @@ use wesl_path::words::word_end;
 
 /// How a word is written.
 #[derive(Clone, Copy)]
-pub enum WordStyle {
+pub(crate) enum WordStyle {
     /// led by the number of its underscores, if it has any, and ended by one
     Escaped,
     /// led by its length
@@ -24,7 +24,7 @@ pub enum WordStyle {
 }
 
 /// Writes `bytes` at `at`, and answers where they end.
-pub fn append(cell: &mut [u8], at: usize, bytes: &[u8]) -> usize
+pub(crate) fn append(cell: &mut [u8], at: usize, bytes: &[u8]) -> usize
     requires { ⌜ at + length (now bytes) ≤ length (now cell) ⌝ }
     ensures { λ r. ⌜ Appended (now (bytes .entry)) (now (cell .entry)) (now (cell .exit)) at r ⌝ }
 {
@@ -33,13 +33,17 @@ pub fn append(cell: &mut [u8], at: usize, bytes: &[u8]) -> usize
 }
 
 /// Writes a number in decimal.
-pub fn append_decimal(cell: &mut [u8], at: usize, n: usize) -> usize
+pub(crate) fn append_decimal(cell: &mut [u8], at: usize, n: usize) -> usize
     requires small { ⌜ n < 1000 ⌝ }
     requires room { ⌜ at + length (decimal n) ≤ length (now cell) ⌝ }
     ensures { λ r. ⌜ Appended (decimal n) (now (cell .entry)) (now (cell .exit)) at r ⌝ }
 {
     let tens = n / 10;
-    let digits = [b'0' + (tens / 10) as u8, b'0' + (tens % 10) as u8, b'0' + (n % 10) as u8];
+    let digits = [
+        b'0' + (tens / 10) as u8,
+        b'0' + (tens % 10) as u8,
+        b'0' + (n % 10) as u8,
+    ];
     if n >= 100 {
         append(cell, at, &digits)
     } else if n >= 10 {
@@ -50,7 +54,7 @@ pub fn append_decimal(cell: &mut [u8], at: usize, n: usize) -> usize
 }
 
 /// Writes a text, a number and `_` at the front of the cell.
-pub fn append_numbered(cell: &mut [u8], front: &[u8], n: usize) -> usize
+pub(crate) fn append_numbered(cell: &mut [u8], front: &[u8], n: usize) -> usize
     requires small { ⌜ n < 1000 ⌝ }
     requires room { ⌜ length (now front ++ (decimal n ++ codes "_")) ≤ length (now cell) ⌝ }
     ensures { λ r. ⌜ Appended (now (front .entry) ++ (decimal n ++ codes "_")) (now (cell .entry)) (now (cell .exit)) 0 r ⌝ }
@@ -61,7 +65,7 @@ pub fn append_numbered(cell: &mut [u8], front: &[u8], n: usize) -> usize
 }
 
 /// How many underscores a word has.
-pub fn count_underscores(word: &[u8]) -> usize
+pub(crate) fn count_underscores(word: &[u8]) -> usize
     ensures { λ r. ⌜ r ≡ underscores (now (word .entry)) ⌝ }
 {
     let mut n = 0;
@@ -73,23 +77,42 @@ pub fn count_underscores(word: &[u8]) -> usize
     n
 }
 
-/// Writes a word as the escape mangling does.
-pub fn append_escaped(cell: &mut [u8], at: usize, word: &[u8]) -> usize
+/// Writes a word without underscores: as it is.
+fn append_bare(cell: &mut [u8], at: usize, word: &[u8]) -> usize
+    requires none { ⌜ underscores (now word) ≡ 0 ⌝ }
+    requires room { ⌜ at + length (escaped (now word)) ≤ length (now cell) ⌝ }
+    ensures { λ r. ⌜ Appended (escaped (now (word .entry))) (now (cell .entry)) (now (cell .exit)) at r ⌝ }
+{
+    append(cell, at, word)
+}
+
+/// Writes a word with underscores: after `_` and their number.
+fn append_led(cell: &mut [u8], at: usize, n: usize, word: &[u8]) -> usize
+    requires count { ⌜ n ≡ underscores (now word) ⌝ }
+    requires some { ⌜ (n ≡ 0 → ⊥) ⌝ }
     requires short { ⌜ length (now word) < 1000 ⌝ }
     requires room { ⌜ at + length (escaped (now word)) ≤ length (now cell) ⌝ }
     ensures { λ r. ⌜ Appended (escaped (now (word .entry))) (now (cell .entry)) (now (cell .exit)) at r ⌝ }
 {
-    let n = count_underscores(word);
-    if n == 0 {
-        return append(cell, at, word);
-    }
     let led = append(cell, at, b"_");
     let told = append_decimal(cell, led, n);
     append(cell, told, word)
 }
 
+/// Writes a word as the escape mangling does.
+pub(crate) fn append_escaped(cell: &mut [u8], at: usize, word: &[u8]) -> usize
+    requires short { ⌜ length (now word) < 1000 ⌝ }
+    requires room { ⌜ at + length (escaped (now word)) ≤ length (now cell) ⌝ }
+    ensures { λ r. ⌜ Appended (escaped (now (word .entry))) (now (cell .entry)) (now (cell .exit)) at r ⌝ }
+{
+    match count_underscores(word) {
+        0 => append_bare(cell, at, word),
+        n => append_led(cell, at, n, word),
+    }
+}
+
 /// Writes a word after its length.
-pub fn append_counted(cell: &mut [u8], at: usize, word: &[u8]) -> usize
+pub(crate) fn append_counted(cell: &mut [u8], at: usize, word: &[u8]) -> usize
     requires short { ⌜ length (now word) < 1000 ⌝ }
     requires room { ⌜ at + length (counted (now word)) ≤ length (now cell) ⌝ }
     ensures { λ r. ⌜ Appended (counted (now (word .entry))) (now (cell .entry)) (now (cell .exit)) at r ⌝ }
@@ -114,7 +137,13 @@ fn append_word(style: WordStyle, cell: &mut [u8], at: usize, word: &[u8]) -> usi
 }
 
 /// Writes the words of `text` from `from` on.
-pub fn append_words(style: WordStyle, text: &[u8], from: usize, cell: &mut [u8], at: usize) -> usize
+pub(crate) fn append_words(
+    style: WordStyle,
+    text: &[u8],
+    from: usize,
+    cell: &mut [u8],
+    at: usize,
+) -> usize
     requires short { ⌜ length (now text) < 1000 ⌝ }
     requires room { ⌜ at + length (joined (styled style) (words (drop from (now text)))) ≤ length (now cell) ⌝ }
     ensures { λ r. ⌜ Appended (joined (styled style) (words (drop from (now (text .entry))))) (now (cell .entry)) (now (cell .exit)) at r ⌝ }
@@ -132,7 +161,7 @@ pub fn append_words(style: WordStyle, text: &[u8], from: usize, cell: &mut [u8],
 }
 
 /// Hands a name over to the caller's buffer, where it fits.
-pub fn deliver(cell: &[u8], len: usize, out: &mut [u8]) -> Result<usize, MangleFault>
+pub(crate) fn deliver(cell: &[u8], len: usize, out: &mut [u8]) -> Result<usize, MangleFault>
     requires { ⌜ len ≤ length (now cell) ⌝ }
     ensures { λ r. ⌜ Answered (take len (now (cell .entry))) (now (out .entry)) (now (out .exit)) r ⌝ }
 {

@@ -19,7 +19,9 @@ use Rattle.std.proofs.shelf.Tests.{and-parts, and-from, or-parts, cond-true, co
 use Rattle.std.proofs.shelf.Ways.{tells, decides-by-and, decides-eqb}
 use Rattle.std.proofs.shelf.Equals.{sameBytes-decides}
 use Rattle.wesl_path.specs.Name.{word-bytes, starts-well, reserved, plain, Plain}
-use Rattle.wesl_path.specs.Path.{origin-words, path-words, 
+use Rattle.wesl_path.specs.Path.{
+  origin-words,
+  path-words,
   Origin,
   absolute,
   relative,
@@ -92,8 +94,8 @@ module _ (text : List ℕ) (i stop : ℕ) (end : stop ≡ i + length (first-word
   after-stop : drop stop text ≡ after-word (drop i text)
   after-stop =
       ap (λ k. drop k text) end
-        ∙ (sym (drop-drop (length (first-word (drop i text))) i text)
-        ∙ (ap (drop (length (first-word (drop i text)))) (sym (word-parts (drop i text))) ∙ drop-at (first-word (drop i text)) (after-word (drop i text)) _ refl))
+      ∙ (sym (drop-drop (length (first-word (drop i text))) i text)
+      ∙ (ap (drop (length (first-word (drop i text)))) (sym (word-parts (drop i text))) ∙ drop-at (first-word (drop i text)) (after-word (drop i text)) _ refl))
 
   words-left : words (after-word (drop i text)) ≡ words (drop (stop + 1) text)
   words-left =
@@ -108,8 +110,8 @@ module _ (text : List ℕ) (i stop : ℕ) (end : stop ≡ i + length (first-word
   words-more h =
       let s : Solid (first-word (drop i text)) = record { inner = first-inner (drop i text); some = omega (arith, end) } in
       ap words (sym (word-parts (drop i text)))
-        ∙ (words-front (first-word (drop i text)) (after-word (drop i text)) s (after-edge (drop i text))
-        ∙ (ap (λ x. x ∷ words (after-word (drop i text))) (sym word-here) ∙ ap (λ x. take (stop - i) (drop i text) ∷ x) words-left))
+      ∙ (words-front (first-word (drop i text)) (after-word (drop i text)) s (after-edge (drop i text))
+      ∙ (ap (λ x. x ∷ words (after-word (drop i text))) (sym word-here) ∙ ap (λ x. take (stop - i) (drop i text) ∷ x) words-left))
 
   pub words-same : stop ≤ i → words (drop i text) ≡ words (drop (stop + 1) text)
   words-same h =
@@ -211,31 +213,31 @@ words-shown : (o : Origin) (cs : List (List ℕ)) → PlainOrigin o → All Plai
 unfolding shown
 words-shown absolute cs ho hc =
     words-front (codes "package") (led (codes "::") cs) (record { inner = (refl, (refl, (refl, (refl, (refl, (refl, (refl, tt))))))); some = omega arith }) (components-edge cs)
-      ∙ ap (λ x. codes "package" ∷ x) (words-components cs hc)
+    ∙ ap (λ x. codes "package" ∷ x) (words-components cs hc)
 words-shown (relative zero) cs ho hc =
     words-front (codes "self") (led (codes "::") cs) (record { inner = (refl, (refl, (refl, (refl, tt)))); some = omega arith }) (components-edge cs)
-      ∙ ap (λ x. codes "self" ∷ x) (words-components cs hc)
+    ∙ ap (λ x. codes "self" ∷ x) (words-components cs hc)
 words-shown (relative (suc n)) cs ho hc =
     let more = led (codes "::") (replicate n (codes "super")) in
     ap words (append-assoc (codes "super") more (led (codes "::") cs))
-      ∙ (words-front (codes "super") (more ++ led (codes "::") cs) super-solid (led-edge Super (replicate n (codes "super")) _ (components-edge cs))
-      ∙ ap (λ x. codes "super" ∷ x) (words-led Super (replicate n (codes "super")) _ (supers-solid n) (components-edge cs) ∙ ap (λ x. replicate n (codes "super") ++ x) (words-components cs hc)))
+    ∙ (words-front (codes "super") (more ++ led (codes "::") cs) super-solid (led-edge Super (replicate n (codes "super")) _ (components-edge cs))
+    ∙ ap (λ x. codes "super" ∷ x) (words-led Super (replicate n (codes "super")) _ (supers-solid n) (components-edge cs) ∙ ap (λ x. replicate n (codes "super") ++ x) (words-components cs hc)))
 words-shown (packaged part more) cs ho hc =
     ap words (append-assoc part (led (codes "/") more) (led (codes "::") cs))
-      ∙ (words-front part (led (codes "/") more ++ led (codes "::") cs) (plain-solid part (ho .0)) (led-edge Part more _ (components-edge cs))
-      ∙ ap (λ x. part ∷ x) (words-led Part more _ (plain-solids more (ho .1)) (components-edge cs) ∙ ap (λ x. more ++ x) (words-components cs hc)))
+    ∙ (words-front part (led (codes "/") more ++ led (codes "::") cs) (plain-solid part (ho .0)) (led-edge Part more _ (components-edge cs))
+    ∙ ap (λ x. part ∷ x) (words-led Part more _ (plain-solids more (ho .1)) (components-edge cs) ∙ ap (λ x. more ++ x) (words-components cs hc)))
 
 -- the slashes of a printed path part its package's name
 slashes-shown : (part : List ℕ) (more cs : List (List ℕ)) → Plain part → All Plain more → All Plain cs
-  → slashes (shown (record { origin = packaged part more; components = cs })) ≡ length more
+    → slashes (shown (record { origin = packaged part more; components = cs })) ≡ length more
 unfolding shown
 slashes-shown part more cs hp hm hc =
     slashes-append (part ++ led (codes "/") more) (led (codes "::") cs)
-      ∙ (let a = slashes-append part (led (codes "/") more) in
-         let b = slashes-inner part (plain-inner part hp) in
-         let d = slashes-parts more (plain-solids more hm) in
-         let e = slashes-components cs (plain-solids cs hc) in
-         omega (arith, a, b, d, e))
+    ∙ (let a = slashes-append part (led (codes "/") more) in
+    let b = slashes-inner part (plain-inner part hp) in
+    let d = slashes-parts more (plain-solids more hm) in
+    let e = slashes-components cs (plain-solids cs hc) in
+    omega (arith, a, b, d, e))
 
 -- what is printed is read back
 pub path-back : (p : Path) → PlainOrigin (p .origin) → All Plain (p .components) → path-of (shown p) ≡ p
@@ -247,14 +249,14 @@ path-back p ho hc = by-origin (p .origin) (p .components) ho hc
     by-origin (relative zero) cs ho hc = ap (of-words _) (words-shown (relative zero) cs ho hc)
     by-origin (relative (suc n)) cs ho hc =
         ap (of-words _) (words-shown (relative (suc n)) cs ho hc)
-          ∙ (supers-count 1 n cs hc ∙ ap (λ k. record { origin = relative k; components = cs }) (let e : n + 1 ≡ suc n = omega arith in e))
+        ∙ (supers-count 1 n cs hc ∙ ap (λ k. record { origin = relative k; components = cs }) (let e : n + 1 ≡ suc n = omega arith in e))
     by-origin (packaged part more) cs ho hc =
         ap (λ n. of-words n (words (shown (record { origin = packaged part more; components = cs })))) (slashes-shown part more cs (ho .0) (ho .1) hc)
-          ∙ (ap (of-words (length more)) (words-shown (packaged part more) cs ho hc)
-          ∙ (of-part (length more) part (more ++ cs) (plain-is-free part (ho .0))
-          ∙ (let t = take-at more cs (length more) refl in
-             let d = drop-at more cs (length more) refl in
-             rw (t, d))))
+        ∙ (ap (of-words (length more)) (words-shown (packaged part more) cs ho hc)
+        ∙ (of-part (length more) part (more ++ cs) (plain-is-free part (ho .0))
+        ∙ (let t = take-at more cs (length more) refl in
+        let d = drop-at more cs (length more) refl in
+        rw (t, d))))
 
 pub all-plain-decides : (ws : List (List ℕ)) → Decides (all-plain ws) (All Plain ws)
 all-plain-decides = decides-by-and plain Plain all-plain (λ w. ((λ e. e), (λ e. e))) refl (λ _ _. refl)

@@ -96,28 +96,38 @@ fn sewn(base: &ModulePath, suffix: &ModulePath) -> Result<ModulePath, PathFault>
     }
 }
 
+fn lengthened(path: &ModulePath, suffix: &Components) -> Result<ModulePath, PathFault>
+    ensures { λ r. ⌜ Given (extended (path-value (now (path .entry))) (components-value (now (suffix .entry)))) r ⌝ }
+{
+    match written(path.as_bytes(), b"::", suffix.as_bytes()) {
+        Some(path) => Ok(path),
+        None => Err(PathFault::Long),
+    }
+}
+
+fn with_item(path: &ModulePath, item: &PlainName) -> Result<ModulePath, PathFault>
+    ensures { λ r. ⌜ Given (extended (path-value (now (path .entry))) (name-text (now (item .entry)) ∷ [])) r ⌝ }
+{
+    match written(path.as_bytes(), b"::", item.as_bytes()) {
+        Some(path) => Ok(path),
+        None => Err(PathFault::Long),
+    }
+}
+
 impl ModulePath {
     /// The path with more components, unless it would pass 255 bytes.
     pub fn join(&self, suffix: &Components) -> Result<ModulePath, PathFault>
         ensures { λ r. ⌜ Given (extended (path-value (now (self .entry))) (components-value (now (suffix .entry)))) r ⌝ }
     {
-        match written(self.as_bytes(), b"::", suffix.as_bytes()) {
-            Some(path) => Ok(path),
-            None => Err(PathFault::Long),
-        }
+        lengthened(self, suffix)
     }
 
     /// Appends a component, unless the path would pass 255 bytes.
     pub fn push(&mut self, item: &PlainName) -> Result<(), PathFault>
         ensures { λ r. ⌜ Pushed (extended (path-value (now (self .entry))) (name-text (now (item .entry)) ∷ [])) (now (self .entry)) (now (self .exit)) r ⌝ }
     {
-        match written(self.as_bytes(), b"::", item.as_bytes()) {
-            Some(path) => {
-                *self = path;
-                Ok(())
-            }
-            None => Err(PathFault::Long),
-        }
+        *self = with_item(self, item)?;
+        Ok(())
     }
 
     /// The path that `suffix` means in the module of this path, which is not relative.

@@ -12,7 +12,7 @@ use crate::name::test::same_bytes;
 
 /// A kind of words in a path, with what stands before each.
 #[derive(Clone, Copy)]
-pub enum Step {
+pub(crate) enum Step {
     /// `/` and a part of a package's name
     Part,
     /// `::` and `super`
@@ -23,7 +23,7 @@ pub enum Step {
 
 /// How many words were passed, and where the last of them ends.
 #[derive(Clone, Copy)]
-pub struct Passed {
+pub(crate) struct Passed {
     pub count: usize,
     pub end: usize,
 }
@@ -34,8 +34,7 @@ fn is_parting(b: u8) -> bool
     b == b':' || b == b'/'
 }
 
-/// Where the word that begins at `at` ends.
-pub fn word_end(text: &[u8], at: usize) -> usize
+fn scan(text: &[u8], at: usize) -> usize
     ensures value { λ r. ⌜ r ≡ at + length (first-word (drop at (now (text .entry)))) ⌝ }
     ensures bound { λ r. ⌜ (at ≤ length (now (text .entry)) → r ≤ length (now (text .entry))) ⌝ }
 {
@@ -44,6 +43,14 @@ pub fn word_end(text: &[u8], at: usize) -> usize
         end += 1;
     }
     end
+}
+
+/// Where the word that begins at `at` ends.
+pub fn word_end(text: &[u8], at: usize) -> usize
+    ensures value { λ r. ⌜ r ≡ at + length (first-word (drop at (now (text .entry)))) ⌝ }
+    ensures bound { λ r. ⌜ (at ≤ length (now (text .entry)) → r ≤ length (now (text .entry))) ⌝ }
+{
+    scan(text, at)
 }
 
 fn lead(step: Step) -> &'static [u8]

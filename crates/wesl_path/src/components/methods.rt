@@ -2,6 +2,8 @@
 ghost use mathlib.Core.Path.{_≡_};
 ghost use mathlib.Core.Bool.{Bool, true, false};
 ghost use Prim.Native.Nat.{ℕ, _+_, _≤_, _<_};
+ghost use Rattle.std.specs.Options.{Cases};
+ghost use lib.Dec.{eqb};
 ghost use lib.ListN.{length, take, drop};
 ghost use Rattle.std.specs.Orderings.{Decides};
 ghost use Rattle.std.specs.Results.{Cases as ByOk};
@@ -17,18 +19,37 @@ use crate::words::word_end;
 
 const LONGEST_PATH: usize = 255;
 
+/// Where the plain names parted by `::` end: a text within the length is components where they end with it.
+fn names_end(text: &[u8]) -> Option<usize>
+    ensures { λ r. ⌜ Cases r (AreComponents (now (text .entry)) → ⊥) (λ end. length (now (text .entry)) ≤ 255 → Decides (eqb end (length (now (text .entry)))) (AreComponents (now (text .entry)))) ⌝ }
+{
+    let end = word_end(text, 0);
+    if !is_plain(&text[0..end]) {
+        return None;
+    }
+    Some(pass(text, end, Step::Component, usize::MAX).end)
+}
+
 /// Whether `text` is plain names parted by `::`.
 pub fn are_components(text: &[u8]) -> bool
     ensures { λ r. ⌜ Decides r (AreComponents (now (text .entry))) ⌝ }
 {
-    if text.len() > LONGEST_PATH {
-        return false;
+    match names_end(text) {
+        None => false,
+        Some(end) => text.len() <= LONGEST_PATH && end == text.len(),
     }
-    let end = word_end(text, 0);
-    if !is_plain(&text[0..end]) {
-        return false;
+}
+
+fn kept(text: &[u8]) -> Components
+    requires { ⌜ AreComponents (now text) ⌝ }
+    ensures { λ r. ⌜ components-text r ≡ now (text .entry) ⌝ }
+{
+    let mut bytes = [0u8; LONGEST_PATH];
+    put(&mut bytes, 0, text);
+    Components {
+        bytes,
+        len: text.len(),
     }
-    pass(text, end, Step::Component, usize::MAX).end == text.len()
 }
 
 impl Components {
@@ -39,12 +60,7 @@ impl Components {
         if !are_components(text) {
             return Err(PathFault::Malformed);
         }
-        let mut bytes = [0u8; LONGEST_PATH];
-        put(&mut bytes, 0, text);
-        Ok(Components {
-            bytes,
-            len: text.len(),
-        })
+        Ok(kept(text))
     }
 
     /// The bytes that the components are written as.

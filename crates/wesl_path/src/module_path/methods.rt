@@ -3,6 +3,7 @@ ghost use mathlib.Core.Path.{_≡_};
 ghost use mathlib.Core.Bool.{Bool, true, false};
 ghost use mathlib.Core.List.{List, _++_};
 ghost use Prim.Native.Nat.{ℕ, _+_, _≤_, _<_};
+ghost use lib.Dec.{eqb};
 ghost use lib.ListN.{length, take, drop};
 ghost use Rattle.std.specs.Options.{Cases};
 ghost use Rattle.std.specs.Results.{Cases as ByOk};
@@ -22,14 +23,23 @@ use crate::words::pass;
 
 const LONGEST_PATH: usize = 255;
 
+/// Where the words end that can be read as a path's: a text within the length is a path where they end with it.
+fn words_end(text: &[u8]) -> Option<usize>
+    ensures { λ r. ⌜ Cases r (IsPath (now (text .entry)) → ⊥) (λ end. length (now (text .entry)) ≤ 255 → Decides (eqb end (length (now (text .entry)))) (IsPath (now (text .entry)))) ⌝ }
+{
+    match read_origin(text) {
+        None => None,
+        Some(head) => Some(pass(text, head.end, Step::Component, usize::MAX).end),
+    }
+}
+
 /// Whether `text` is a path.
 pub fn is_path(text: &[u8]) -> bool
     ensures { λ r. ⌜ Decides r (IsPath (now (text .entry))) ⌝ }
 {
-    match read_origin(text) {
+    match words_end(text) {
         None => false,
-        Some(head) => text.len() <= LONGEST_PATH
-            && pass(text, head.end, Step::Component, usize::MAX).end == text.len(),
+        Some(end) => text.len() <= LONGEST_PATH && end == text.len(),
     }
 }
 
@@ -52,6 +62,29 @@ pub(crate) fn written(front: &[u8], sep: &[u8], back: &[u8]) -> Option<ModulePat
         bytes,
         len: front.len() + sep.len() + back.len(),
     })
+}
+
+fn head_of(path: &ModulePath) -> Head
+    ensures { λ r. ⌜ HeadOf (path-text (now (path .entry))) r ⌝ }
+{
+    match read_origin(path.as_bytes()) {
+        Some(head) => head,
+        None => unreachable(),
+    }
+}
+
+fn count_components(path: &ModulePath) -> usize
+    ensures { λ r. ⌜ r ≡ length (path-value (now (path .entry)) .components) ⌝ }
+{
+    let end = head_of(path).end;
+    pass(path.as_bytes(), end, Step::Component, usize::MAX).count
+}
+
+fn same_path(a: &ModulePath, b: &ModulePath) -> bool
+    ensures same { λ r. ⌜ SameAnswer (now (a .entry)) (now (b .entry)) r ⌝ }
+    ensures lawful { λ _. ⌜ Equivalence ⌝ }
+{
+    same_bytes(a.as_bytes(), b.as_bytes())
 }
 
 impl ModulePath {
@@ -81,10 +114,7 @@ impl ModulePath {
     pub fn head(&self) -> Head
         ensures { λ r. ⌜ HeadOf (path-text (now (self .entry))) r ⌝ }
     {
-        match read_origin(self.as_bytes()) {
-            Some(head) => head,
-            None => unreachable(),
-        }
+        head_of(self)
     }
 
     /// Where the path starts.
@@ -98,22 +128,17 @@ impl ModulePath {
     pub fn component_count(&self) -> usize
         ensures { λ r. ⌜ r ≡ length (path-value (now (self .entry)) .components) ⌝ }
     {
-        let end = self.head().end;
-        pass(self.as_bytes(), end, Step::Component, usize::MAX).count
+        count_components(self)
     }
 }
 
 pub impl PartialEq<ModulePath> for ModulePath as ModulePathPartialEq {
     ghost equals = { λ a b r. SameAnswer a b r };
 
-    fn eq(&self, other: &ModulePath) -> bool {
-        same_bytes(self.as_bytes(), other.as_bytes())
+    fn eq(&self, other: &ModulePath) -> bool
+        ensures same { λ r. ⌜ SameAnswer (now (self .entry)) (now (other .entry)) r ⌝ }
+        ensures lawful { λ _. ⌜ Equivalence ⌝ }
+    {
+        same_path(self, other)
     }
-}
-
-/// That `==` at paths is an equivalence.
-pub fn equality_stands() -> u8
-    ensures { λ _. ⌜ Equivalence ⌝ }
-{
-    0
 }

@@ -67,14 +67,32 @@ fn are_word_bytes(bytes: &[u8]) -> bool
     true
 }
 
-/// Whether `bytes` are a plain name.
-pub fn is_plain(bytes: &[u8]) -> bool
+fn passes(bytes: &[u8]) -> bool
     ensures { λ r. ⌜ r ≡ plain (now (bytes .entry)) ⌝ }
 {
     starts_well(bytes)
         && bytes.len() <= LONGEST_NAME
         && are_word_bytes(bytes)
         && !is_reserved(bytes)
+}
+
+/// Whether `bytes` are a plain name.
+pub fn is_plain(bytes: &[u8]) -> bool
+    ensures { λ r. ⌜ r ≡ plain (now (bytes .entry)) ⌝ }
+{
+    passes(bytes)
+}
+
+fn kept(bytes: &[u8]) -> PlainName
+    requires { ⌜ plain (now bytes) ≡ true ⌝ }
+    ensures { λ r. ⌜ name-text r ≡ now (bytes .entry) ⌝ }
+{
+    let mut cell = [0u8; LONGEST_NAME];
+    put(&mut cell, 0, bytes);
+    PlainName {
+        bytes: cell,
+        len: bytes.len(),
+    }
 }
 
 impl PlainName {
@@ -85,12 +103,7 @@ impl PlainName {
         if !is_plain(bytes) {
             return Err(PathFault::Malformed);
         }
-        let mut cell = [0u8; LONGEST_NAME];
-        put(&mut cell, 0, bytes);
-        Ok(PlainName {
-            bytes: cell,
-            len: bytes.len(),
-        })
+        Ok(kept(bytes))
     }
 
     /// The name's bytes.

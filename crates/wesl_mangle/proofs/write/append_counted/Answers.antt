@@ -28,4 +28,4 @@ unfolding counted
 returns c =
     let word = c .args .word .now in
     appended-as (counted word) (append-assoc (decimal (length word)) (95 ∷ []) word)
-      (appended-more word _ _ (appended-more (95 ∷ []) _ _ (c .append-decimal-told .ensures) (c .append-led .ensures)) (c .append .ensures))
+    (appended-more word _ _ (appended-more (95 ∷ []) _ _ (c .append-decimal-told .ensures) (c .append-led .ensures)) (c .append .ensures))

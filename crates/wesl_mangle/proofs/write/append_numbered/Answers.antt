@@ -32,4 +32,4 @@ returns c =
     let front = c .args .front .now in
     let d = decimal (c .args .n) in
     appended-as (front ++ (d ++ codes "_")) (append-assoc front d (codes "_"))
-      (appended-more (codes "_") _ _ (appended-more d _ _ (c .append-led .ensures) (c .append-decimal-told .ensures)) (c .append .ensures))
+    (appended-more (codes "_") _ _ (appended-more d _ _ (c .append-led .ensures) (c .append-decimal-told .ensures)) (c .append .ensures))

@@ -35,24 +35,24 @@ loop-i-again c =
     let v = c .word-end-stop .ensures .value in
     let inv = c .loop-i .inv in
     elim (c .if-i-stop .came) [
-      then-i-stop w ↦ (
-        let all = words-more text i stop v (w .if-i-stop .taken) in
-        let more = words-length st _ _ _ all in
-        let a = w .append-word-end .ensures in
-        let ends = a .ends in
-        let held = words-written st _ _ _ _ _ _ _ _ all (inv .1) a in
-        let e = w .end-is in
-        let d = w .cell-is in
-        (omega (arith, more), cc)
-      )
-    | else-i-stop w ↦ (
-        let same = ap (joined st) (words-same text i stop v (w .if-i-stop .left)) in
-        let long = ap length same in
-        let e = w .end-is in
-        let d = w .cell-is in
-        let held = inv .1 in
-        (omega (arith, long), cc)
-      )
+      | then-i-stop w ↦ (
+          let all = words-more text i stop v (w .if-i-stop .taken) in
+          let more = words-length st _ _ _ all in
+          let a = w .append-word-end .ensures in
+          let ends = a .ends in
+          let held = words-written st _ _ _ _ _ _ _ _ all (inv .1) a in
+          let e = w .end-is in
+          let d = w .cell-is in
+          (omega (arith, more), cc)
+          )
+      | else-i-stop w ↦ (
+          let same = ap (joined st) (words-same text i stop v (w .if-i-stop .left)) in
+          let long = ap length same in
+          let e = w .end-is in
+          let d = w .cell-is in
+          let held = inv .1 in
+          (omega (arith, long), cc)
+          )
     ]
 
 pub returns : need.returns

@@ -11,7 +11,7 @@ use Rattle.wesl_mangle.proofs.write.append_words.Given as given
 abbrev pub Inv-loop-i : given.InvT-loop-i
 Inv-loop-i l =
     (l .end + length (joined (styled (l .style)) (words (drop (l .i) (l .text)))) ≡ l .at + length (joined (styled (l .style)) (words (drop (l .from) (l .text)))))
-      × (take (l .end) (l .cell) ++ joined (styled (l .style)) (words (drop (l .i) (l .text))) ≡ take (l .at) (l .entry .cell) ++ joined (styled (l .style)) (words (drop (l .from) (l .text))))
+    × (take (l .end) (l .cell) ++ joined (styled (l .style)) (words (drop (l .i) (l .text))) ≡ take (l .at) (l .entry .cell) ++ joined (styled (l .style)) (words (drop (l .from) (l .text))))
 
 abbrev pub μ-loop-i : given.MeasureT-loop-i
 μ-loop-i l = length (l .text) - l .i

@@ -15,8 +15,8 @@ loop-b-again c =
     let word = c .args .word .now in
     let i = c .loop-b .b-index in
     elim (c .if-b-eq95 .came) [
-      then-b-eq95 w ↦ (let e = countBy-more-yes (λ b. eqb b 95) word i 0 (omega arith) (eq-eqb _ _ (w .if-b-eq95 .taken)) in let k = w .n-is in (omega (arith, e), omega arith))
-    | else-b-eq95 w ↦ (let e = countBy-more-no (λ b. eqb b 95) word i 0 (omega arith) (ne-eqb _ _ (w .if-b-eq95 .left)) in let k = w .n-is in (omega (arith, e), omega arith))
+      | then-b-eq95 w ↦ (let e = countBy-more-yes (λ b. eqb b 95) word i 0 (omega arith) (eq-eqb _ _ (w .if-b-eq95 .taken)) in let k = w .n-is in (omega (arith, e), omega arith))
+      | else-b-eq95 w ↦ (let e = countBy-more-no (λ b. eqb b 95) word i 0 (omega arith) (ne-eqb _ _ (w .if-b-eq95 .left)) in let k = w .n-is in (omega (arith, e), omega arith))
     ]
 
 pub returns : need.returns

@@ -6,16 +6,12 @@ use wesl_mangle::EscapeMangler;
 use wesl_mangle::EscapeMangling;
 use wesl_mangle::LengthMangler;
 use wesl_mangle::LengthMangling;
-use wesl_mangle::MangleFault;
-use wesl_mangle::Mangler;
+use wesl_mangle::MangledName;
 use wesl_path::ModulePath;
 use wesl_path::PathFault;
 use wesl_path::PathOrigin;
 use wesl_path::PlainName;
 use wesl_path::is_plain;
-
-/// No Mangler makes a longer name.
-const LONGEST_NAME: usize = 1024;
 
 pub fn answer_to<W: Write>(command: Command<'_>, out: &mut W) -> io::Result<()> {
     match command {
@@ -54,8 +50,14 @@ fn answer_join<W: Write>(base: &[u8], suffix: &[u8], out: &mut W) -> io::Result<
             out.write_all(path.as_bytes())?;
             out.write_all(b"\n")
         }
-        Err(PathFault::Long) => out.write_all(b"join\tlong\n"),
-        Err(fault) => answer_refused("join", fault.number(), out),
+        Err(fault) => answer_not_joined(fault, out),
+    }
+}
+
+fn answer_not_joined<W: Write>(fault: PathFault, out: &mut W) -> io::Result<()> {
+    match fault {
+        PathFault::Long => out.write_all(b"join\tlong\n"),
+        PathFault::Malformed | PathFault::Relative => answer_refused("join", fault.number(), out),
     }
 }
 
@@ -74,76 +76,25 @@ fn answer_mangle<W: Write>(path: &[u8], item: &[u8], out: &mut W) -> io::Result<
             out.write_all(names.lengths.as_bytes())?;
             out.write_all(b"\n")
         }
-        Err(refusal) => answer_refused("mangle", refusal.number(), out),
+        Err(fault) => answer_refused("mangle", fault.number(), out),
     }
 }
 
 /// What a declaration is called by the two Manglers.
 #[derive(Clone, Copy)]
 struct Names {
-    escaped: Name,
-    lengths: Name,
+    escaped: MangledName,
+    lengths: MangledName,
 }
 
 impl Names {
-    fn of(path: &[u8], item: &[u8]) -> Result<Names, Refusal> {
+    fn of(path: &[u8], item: &[u8]) -> Result<Names, PathFault> {
         let path = ModulePath::read(path)?;
         let item = PlainName::read(item)?;
         Ok(Names {
-            escaped: Name::by(&EscapeMangler {}, &path, &item)?,
-            lengths: Name::by(&LengthMangler {}, &path, &item)?,
+            escaped: MangledName::of(&EscapeMangler {}, &path, &item),
+            lengths: MangledName::of(&LengthMangler {}, &path, &item),
         })
-    }
-}
-
-/// A Mangler's name: the first `len` bytes of its room.
-#[derive(Clone, Copy)]
-struct Name {
-    room: [u8; LONGEST_NAME],
-    len: usize,
-}
-
-impl Name {
-    fn by<M: Mangler>(
-        mangler: &M,
-        path: &ModulePath,
-        item: &PlainName,
-    ) -> Result<Name, MangleFault> {
-        let mut room = [0; LONGEST_NAME];
-        let len = mangler.mangle(path, item, &mut room)?;
-        Ok(Name { room, len })
-    }
-
-    fn as_bytes(&self) -> &[u8] {
-        self.room.get(0..self.len).unwrap_or(&[])
-    }
-}
-
-/// Why a declaration has no name.
-#[derive(Clone, Copy)]
-enum Refusal {
-    Path(PathFault),
-    Mangle(MangleFault),
-}
-
-impl Refusal {
-    fn number(self) -> u8 {
-        match self {
-            Refusal::Path(fault) => fault.number(),
-            Refusal::Mangle(fault) => fault.number(),
-        }
-    }
-}
-
-impl From<PathFault> for Refusal as RefusalFromPath {
-    fn from(fault: PathFault) -> Refusal {
-        Refusal::Path(fault)
-    }
-}
-
-impl From<MangleFault> for Refusal as RefusalFromMangle {
-    fn from(fault: MangleFault) -> Refusal {
-        Refusal::Mangle(fault)
     }
 }
 

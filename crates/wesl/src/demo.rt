@@ -2,14 +2,19 @@
 use crate::failure::Failure;
 use crate::failure::FailureFromAlloc;
 use crate::failure::FailureFromIo;
-use crate::failure::FailureFromMangle;
 use crate::failure::FailureFromRefused;
 use crate::naming::Declaration;
 use crate::naming::DeclarationDisplay;
+use crate::naming::Refusal;
 use crate::naming::RefusalDisplay;
+use crate::naming::text_of;
 use std::alloc::AllocError;
 use std::alloc::Global;
 use std::io::Write;
+use wesl_mangle::EscapeMangler;
+use wesl_mangle::EscapeMangling;
+use wesl_mangle::LengthMangler;
+use wesl_mangle::LengthMangling;
 
 /// The package of a bridge's sensors, and what it uses of the package `sensors`. The last six are
 /// three pairs that joining their words with `_` would give one name each.
@@ -34,14 +39,14 @@ struct Row {
 }
 
 impl Row {
-    fn of(heap: Global, declaration: &Declaration) -> Result<Row, Failure> {
-        let escaped = declaration.escaped()?;
-        let lengths = declaration.lengths()?;
+    fn of(heap: Global, declaration: &Declaration) -> Result<Row, AllocError> {
+        let escaped = declaration.named(&EscapeMangler {});
+        let lengths = declaration.named(&LengthMangler {});
         Ok(Row {
             declaration: format!(heap, "{declaration}")?,
             joined: joined(heap, declaration)?,
-            escaped: String::from_str(heap, escaped.as_str())?,
-            lengths: String::from_str(heap, lengths.as_str())?,
+            escaped: String::from_str(heap, text_of(escaped.as_bytes()))?,
+            lengths: String::from_str(heap, text_of(lengths.as_bytes()))?,
         })
     }
 
@@ -106,7 +111,13 @@ fn read_example<W: Write>(heap: Global, out: &mut W) -> Result<Vec<Row>, Failure
                 writeln!(out, "  read {declaration}")?;
                 rows.push(Row::of(heap, &declaration)?)?;
             }
-            Err(refusal) => writeln!(out, "  refused {refusal}")?,
+            Err(refused) => {
+                let refusal = Refusal {
+                    line: line.as_bytes(),
+                    refused,
+                };
+                writeln!(out, "  refused {refusal}")?;
+            }
         }
     }
     Ok(rows)

@@ -5,7 +5,6 @@ use std::alloc::AllocError;
 use std::alloc::Refused;
 use std::fmt;
 use std::io;
-use wesl_mangle::MangleFault;
 
 const HINT: &str = "`wesl help` shows how it is used";
 
@@ -18,7 +17,6 @@ pub enum Failure {
     Unreadable(Option<String>, io::Error),
     /// So many lines of a list.
     Refused(usize),
-    NoRoom(MangleFault),
     Io(io::Error),
 }
 
@@ -46,10 +44,6 @@ pub impl fmt::Display for Failure as FailureDisplay {
                 "cannot read standard input: {error}; {HINT}"
             ),
             Failure::Refused(count) => write!(f, "lines refused: {count}"),
-            Failure::NoRoom(fault) => {
-                let number = fault.number();
-                write!(f, "a name is too long to write (refusal {number})")
-            }
             Failure::Io(error) => write!(f, "cannot go on: {error}"),
         }
     }
@@ -58,12 +52,6 @@ pub impl fmt::Display for Failure as FailureDisplay {
 pub impl From<io::Error> for Failure as FailureFromIo {
     fn from(error: io::Error) -> Failure {
         Failure::Io(error)
-    }
-}
-
-pub impl From<MangleFault> for Failure as FailureFromMangle {
-    fn from(fault: MangleFault) -> Failure {
-        Failure::NoRoom(fault)
     }
 }
 

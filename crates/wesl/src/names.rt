@@ -1,13 +1,18 @@
 //! `wesl names`: names the declarations of a list.
 use crate::failure::Failure;
 use crate::failure::FailureFromIo;
-use crate::failure::FailureFromMangle;
 use crate::naming::Declaration;
+use crate::naming::Refusal;
 use crate::naming::RefusalDisplay;
+use crate::naming::text_of;
 use std::alloc::Global;
 use std::io::BufRead;
 use std::io::BufReader;
 use std::io::Write;
+use wesl_mangle::EscapeMangler;
+use wesl_mangle::EscapeMangling;
+use wesl_mangle::LengthMangler;
+use wesl_mangle::LengthMangling;
 
 /// How the lines of a list fared.
 #[derive(Clone, Copy)]
@@ -47,7 +52,8 @@ fn write_line<W: Write>(number: usize, line: &[u8], out: &mut W) -> Result<bool,
             write_named(&declaration, out)?;
             Ok(true)
         }
-        Err(refusal) => {
+        Err(refused) => {
+            let refusal = Refusal { line, refused };
             writeln!(out, "line {number}: {refusal}")?;
             Ok(false)
         }
@@ -57,10 +63,10 @@ fn write_line<W: Write>(number: usize, line: &[u8], out: &mut W) -> Result<bool,
 fn write_named<W: Write>(declaration: &Declaration, out: &mut W) -> Result<(), Failure> {
     let path = declaration.path();
     let item = declaration.item();
-    let escaped = declaration.escaped()?;
-    let lengths = declaration.lengths()?;
-    let escaped = escaped.as_str();
-    let lengths = lengths.as_str();
+    let escaped = declaration.named(&EscapeMangler {});
+    let lengths = declaration.named(&LengthMangler {});
+    let escaped = text_of(escaped.as_bytes());
+    let lengths = text_of(lengths.as_bytes());
     writeln!(out, "{path}\t{item}\t{escaped}\t{lengths}")?;
     Ok(())
 }

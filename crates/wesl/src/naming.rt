@@ -6,17 +6,11 @@ use crate::shown::Shown;
 use crate::shown::ShownDisplay;
 use std::fmt;
 use std::str::from_utf8;
-use wesl_mangle::EscapeMangler;
-use wesl_mangle::EscapeMangling;
-use wesl_mangle::LengthMangler;
-use wesl_mangle::LengthMangling;
-use wesl_mangle::MangleFault;
+use wesl_mangle::MangledName;
 use wesl_mangle::Mangler;
 use wesl_path::ModulePath;
+use wesl_path::PathFault;
 use wesl_path::PlainName;
-
-/// No Mangler makes a longer name.
-const LONGEST_NAME: usize = 1024;
 
 /// The module that it stands in, and its own name.
 #[derive(Clone, Copy)]
@@ -25,15 +19,19 @@ pub struct Declaration {
     item: PlainName,
 }
 
+/// Why a line names no declaration.
+#[derive(Clone, Copy)]
+pub enum Refused {
+    NoTab,
+    Path(PathFault),
+    Item(PathFault),
+}
+
 impl Declaration {
     /// Reads `PATH tab NAME`.
-    pub fn read(line: &[u8]) -> Result<Declaration, Refusal<'_>> {
+    pub fn read(line: &[u8]) -> Result<Declaration, Refused> {
         let Some((path, item)) = cut(line, b'\t') else {
-            return Err(Refusal {
-                text: line,
-                reason: Some(Reason::NoTab),
-                number: None,
-            });
+            return Err(Refused::NoTab);
         };
         Ok(Declaration {
             path: read_path(path)?,
@@ -49,12 +47,9 @@ impl Declaration {
         text_of(self.item.as_bytes())
     }
 
-    pub fn escaped(&self) -> Result<Name, MangleFault> {
-        Name::by(&EscapeMangler {}, self)
-    }
-
-    pub fn lengths(&self) -> Result<Name, MangleFault> {
-        Name::by(&LengthMangler {}, self)
+    /// The name that a Mangler gives it.
+    pub fn named<M: Mangler>(&self, mangler: &M) -> MangledName {
+        MangledName::of(mangler, &self.path, &self.item)
     }
 }
 
@@ -66,25 +61,17 @@ pub impl fmt::Display for Declaration as DeclarationDisplay {
     }
 }
 
-fn read_path(text: &[u8]) -> Result<ModulePath, Refusal<'_>> {
+fn read_path(text: &[u8]) -> Result<ModulePath, Refused> {
     match ModulePath::read(text) {
         Ok(path) => Ok(path),
-        Err(fault) => Err(Refusal {
-            text,
-            reason: reason::of_path(text),
-            number: Some(fault.number()),
-        }),
+        Err(fault) => Err(Refused::Path(fault)),
     }
 }
 
-fn read_item(text: &[u8]) -> Result<PlainName, Refusal<'_>> {
+fn read_item(text: &[u8]) -> Result<PlainName, Refused> {
     match PlainName::read(text) {
         Ok(item) => Ok(item),
-        Err(fault) => Err(Refusal {
-            text,
-            reason: reason::of_name(text),
-            number: Some(fault.number()),
-        }),
+        Err(fault) => Err(Refused::Item(fault)),
     }
 }
 
@@ -99,51 +86,55 @@ fn cut(bytes: &[u8], mark: u8) -> Option<(&[u8], &[u8])> {
 }
 
 /// Paths and names are ASCII, so each is text.
-fn text_of(bytes: &[u8]) -> &str {
+pub fn text_of(bytes: &[u8]) -> &str {
     from_utf8(bytes).unwrap_or("")
 }
 
-/// A Mangler's name: the first `len` bytes of its room.
-#[derive(Clone, Copy)]
-pub struct Name {
-    room: [u8; LONGEST_NAME],
-    len: usize,
-}
-
-impl Name {
-    fn by<M: Mangler>(mangler: &M, declaration: &Declaration) -> Result<Name, MangleFault> {
-        let mut room = [0; LONGEST_NAME];
-        let len = mangler.mangle(&declaration.path, &declaration.item, &mut room)?;
-        Ok(Name { room, len })
-    }
-
-    pub fn as_str(&self) -> &str {
-        text_of(self.room.get(0..self.len).unwrap_or(&[]))
-    }
-}
-
-/// A text that was refused, and why. A number is the library's own; a line that the library was not
+/// A line that was refused, to be told in words. The library's number stands behind them; a line that the library was not
 /// asked about has none.
 #[derive(Clone, Copy)]
 pub struct Refusal<'a> {
-    text: &'a [u8],
-    reason: Option<Reason>,
-    number: Option<u8>,
+    pub line: &'a [u8],
+    pub refused: Refused,
+}
+
+impl<'a> Refusal<'a> {
+    /// The part of the line that is refused.
+    fn text(&self) -> &'a [u8] {
+        let (path, item) = cut(self.line, b'\t').unwrap_or((self.line, &[]));
+        match self.refused {
+            Refused::NoTab => self.line,
+            Refused::Path(_) => path,
+            Refused::Item(_) => item,
+        }
+    }
+
+    fn reason(&self) -> Option<Reason> {
+        match self.refused {
+            Refused::NoTab => Some(Reason::NoTab),
+            Refused::Path(_) => reason::of_path(self.text()),
+            Refused::Item(_) => reason::of_name(self.text()),
+        }
+    }
 }
 
 pub impl fmt::Display for Refusal<'_> as RefusalDisplay {
     fn fmt<W: fmt::Write>(&self, f: &mut fmt::Formatter<W>) -> fmt::Result {
-        if !self.text.is_empty() {
-            let text = Shown(self.text);
+        let text = self.text();
+        if !text.is_empty() {
+            let text = Shown(text);
             write!(f, "{text}: ")?;
         }
-        match self.reason {
+        match self.reason() {
             Some(reason) => write!(f, "{reason}")?,
             None => f.write_str("refused")?,
         }
-        match self.number {
-            Some(number) => write!(f, " (refusal {number})"),
-            None => Ok(()),
+        match self.refused {
+            Refused::NoTab => Ok(()),
+            Refused::Path(fault) | Refused::Item(fault) => {
+                let number = fault.number();
+                write!(f, " (refusal {number})")
+            }
         }
     }
 }

@@ -13,6 +13,10 @@ pub record Item : Type 0 where
   pub path : Path
   pub name : List ℕ
 
+-- letters, digits and underscores, no digit first
+unfoldable pub is-word : List ℕ → Bool
+is-word bs = starts-well bs && word-bytes bs
+
 -- an identifier of the output: 1 to 1,024 letters, digits and underscores, no digit first
 pub record Identifier (bs : List ℕ) : Type 0 where
   pub starts : starts-well bs ≡ true

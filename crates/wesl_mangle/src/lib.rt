@@ -4,6 +4,7 @@ pub mod examples;
 pub mod fault;
 pub mod lengths;
 pub mod mangler;
+pub mod name;
 mod write;
 
 pub use escape::EscapeMangler;
@@ -13,3 +14,4 @@ pub use fault::MangleFault;
 pub use lengths::LengthMangler;
 pub use lengths::LengthMangling;
 pub use mangler::Mangler;
+pub use name::MangledName;

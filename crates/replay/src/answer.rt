@@ -13,7 +13,7 @@ use wesl_path::PathOrigin;
 use wesl_path::PlainName;
 use wesl_path::is_plain;
 
-pub fn answer_to<W: Write>(command: Command<'_>, out: &mut W) -> io::Result<()> {
+pub(crate) fn answer_to<W: Write>(command: Command<'_>, out: &mut W) -> io::Result<()> {
     match command {
         Command::Plain(name) => answer_plain(name, out),
         Command::Path(text) => answer_path(text, out),

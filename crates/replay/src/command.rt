@@ -1,5 +1,5 @@
 //! The commands, and how they are read from the input.
-ghost use Prim.Native.Nat.{_≤_, _<_};
+ghost use Prim.Native.Nat.{_<_};
 ghost use lib.ListN.{length};
 
 /// A command with its arguments, which may hold any byte but 0x0A, so they are no text.
@@ -20,7 +20,7 @@ pub struct Commands<'a> {
 }
 
 impl<'a> Commands<'a> {
-    pub fn of(input: &'a [u8]) -> Commands<'a> {
+    pub(crate) fn of(input: &'a [u8]) -> Commands<'a> {
         Commands { rest: input }
     }
 }

@@ -11,7 +11,7 @@ pub enum Command {
 }
 
 impl Command {
-    pub fn of(rt: &LibcRuntime) -> Result<Command, Failure> {
+    pub(crate) fn of(rt: &LibcRuntime) -> Result<Command, Failure> {
         let mut words = match env::args(rt) {
             Ok(words) => words,
             Err(error) => return Err(Failure::Arguments(error)),

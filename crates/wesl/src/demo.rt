@@ -75,7 +75,7 @@ fn joined(heap: Global, declaration: &Declaration) -> Result<String, AllocError>
     format!(heap, "{path}_{item}")
 }
 
-pub fn write_demo<W: Write>(heap: Global, out: &mut W) -> Result<(), Failure> {
+pub(crate) fn write_demo<W: Write>(heap: Global, out: &mut W) -> Result<(), Failure> {
     let count = EXAMPLE.len();
     writeln!(
         out,

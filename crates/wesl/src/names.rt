@@ -23,7 +23,7 @@ struct Tally {
 
 /// Writes both names of each declaration, or why its line is refused. Lines that are refused keep no
 /// other from its names, and the failure comes after all of them.
-pub fn write_names<W: Write>(heap: Global, list: &[u8], out: &mut W) -> Result<(), Failure> {
+pub(crate) fn write_names<W: Write>(heap: Global, list: &[u8], out: &mut W) -> Result<(), Failure> {
     let mut tally = Tally {
         named: 0,
         refused: 0,

@@ -1,4 +1,7 @@
 //! A declaration, and what the Manglers call it.
+ghost use mathlib.Core.Path.{_≡_};
+ghost use Rattle.wesl_mangle.specs.Names.{mangled-text};
+ghost use Rattle.wesl_path.specs.Texts.{path-value, name-text};
 use crate::reason;
 use crate::reason::Reason;
 use crate::reason::ReasonDisplay;
@@ -29,7 +32,7 @@ pub enum Refused {
 
 impl Declaration {
     /// Reads `PATH tab NAME`.
-    pub fn read(line: &[u8]) -> Result<Declaration, Refused> {
+    pub(crate) fn read(line: &[u8]) -> Result<Declaration, Refused> {
         let Some((path, item)) = cut(line, b'\t') else {
             return Err(Refused::NoTab);
         };
@@ -39,16 +42,18 @@ impl Declaration {
         })
     }
 
-    pub fn path(&self) -> &str {
+    pub(crate) fn path(&self) -> &str {
         text_of(self.path.as_bytes())
     }
 
-    pub fn item(&self) -> &str {
+    pub(crate) fn item(&self) -> &str {
         text_of(self.item.as_bytes())
     }
 
     /// The name that a Mangler gives it.
-    pub fn named<M: Mangler>(&self, mangler: &M) -> MangledName {
+    pub fn named<M: Mangler>(&self, mangler: &M) -> MangledName
+        ensures { λ r. ⌜ mangled-text r ≡ meaning (now (mangler .entry)) (path-value (now (self .entry) .path)) (name-text (now (self .entry) .item)) ⌝ }
+    {
         MangledName::of(mangler, &self.path, &self.item)
     }
 }
@@ -86,7 +91,7 @@ fn cut(bytes: &[u8], mark: u8) -> Option<(&[u8], &[u8])> {
 }
 
 /// Paths and names are ASCII, so each is text.
-pub fn text_of(bytes: &[u8]) -> &str {
+pub(crate) fn text_of(bytes: &[u8]) -> &str {
     from_utf8(bytes).unwrap_or("")
 }
 

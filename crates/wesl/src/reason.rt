@@ -1,8 +1,16 @@
 //! Why a text is no module path, or no name.
+ghost use mathlib.Core.Path.{_≡_};
+ghost use mathlib.Core.Bool.{not};
+ghost use Rattle.std.specs.Options.{isSome};
+ghost use Rattle.std.specs.Orderings.{Decides};
+ghost use Rattle.wesl_path.specs.Name.{plain};
+ghost use Rattle.wesl_path.specs.Path.{IsPath};
 use crate::shown::Shown;
 use crate::shown::ShownDisplay;
 use std::fmt;
 use std::str::from_utf8;
+use wesl_path::is_path;
+use wesl_path::is_plain;
 
 const LONGEST_PATH: usize = 255;
 
@@ -15,6 +23,9 @@ pub enum Reason {
     LongPath(usize),
     SingleColon,
     Word(Role, WordFault),
+    /// Where no better word is found.
+    NoPath,
+    NoName,
 }
 
 /// What a word was to be.
@@ -36,13 +47,30 @@ pub enum WordFault {
 }
 
 /// The reason why `text` is no path, or `None` where it is one.
-pub fn of_path(text: &[u8]) -> Option<Reason> {
-    check_path(text).err()
+pub fn of_path(text: &[u8]) -> Option<Reason>
+    ensures { λ r. ⌜ Decides (isSome r) (IsPath (now (text .entry)) → ⊥) ⌝ }
+{
+    if is_path(text) {
+        return None;
+    }
+    match check_path(text) {
+        Err(reason) => Some(reason),
+        // The tests look for a text that comes here.
+        Ok(()) => Some(Reason::NoPath),
+    }
 }
 
 /// The reason why `text` is no name, or `None` where it is one.
-pub fn of_name(text: &[u8]) -> Option<Reason> {
-    check_word(text, Role::Name).err()
+pub fn of_name(text: &[u8]) -> Option<Reason>
+    ensures { λ r. ⌜ isSome r ≡ not (plain (now (text .entry))) ⌝ }
+{
+    if is_plain(text) {
+        return None;
+    }
+    match check_word(text, Role::Name) {
+        Err(reason) => Some(reason),
+        Ok(()) => Some(Reason::NoName),
+    }
 }
 
 fn check_path(bytes: &[u8]) -> Result<(), Reason> {
@@ -151,6 +179,8 @@ pub impl fmt::Display for Reason as ReasonDisplay {
             }
             Reason::SingleColon => f.write_str("a single colon, where only `::` parts components"),
             Reason::Word(role, fault) => write!(f, "{role} {fault}"),
+            Reason::NoPath => f.write_str("this is no path"),
+            Reason::NoName => f.write_str("this is no name"),
         }
     }
 }
@@ -196,8 +226,6 @@ mod tests {
     use std::alloc::AllocError;
     use std::alloc::Global;
     use std::test::*;
-    use wesl_path::ModulePath;
-    use wesl_path::PlainName;
 
     const PATHS: [(&[u8], &str); 18] = [
         (b"", "the path is empty"),
@@ -310,8 +338,8 @@ mod tests {
 
     fn check_agrees(text: &str) -> Result<(), Fail> {
         let bytes = text.as_bytes();
-        check_eq(of_path(bytes).is_none(), ModulePath::read(bytes).is_ok())?;
-        check_eq(of_name(bytes).is_none(), PlainName::read(bytes).is_ok())
+        check_eq(check_path(bytes).is_ok(), is_path(bytes))?;
+        check_eq(check_word(bytes, Role::Name).is_ok(), is_plain(bytes))
     }
 
     #[test]

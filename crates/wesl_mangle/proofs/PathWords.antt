@@ -1,21 +1,19 @@
 -- A path's text, by the words and the kind of origin that the code sees.
 use native.Mathlib.Omega.{arith}
-use mathlib.Core.Path.{_≡_, refl, sym, ap, subst, _∙_}
+use mathlib.Core.Path.{_≡_, refl, sym, ap, _∙_}
 use mathlib.Core.Bool.{true}
 use mathlib.Core.List.{List, [], _∷_, _++_}
-use Prim.Native.Nat.{ℕ, zero, suc, _+_, _≤_, _<_}
+use Prim.Native.Nat.{ℕ, suc, _+_, _≤_, _<_}
 use lib.Dec.{leb}
-use lib.ListN.{length, drop, replicate}
+use lib.ListN.{length, drop}
 use lib.Chars.{codes}
 use Rattle.std.specs.shelf.Lists.{joined}
 use Rattle.std.specs.Written.{decimal}
 use Rattle.std.proofs.shelf.Lists.{length-append}
 use Rattle.std.proofs.shelf.Tests.{cond-false, lt-leb}
-use Rattle.wesl_path.specs.Name.{Plain}
-use Rattle.wesl_path.specs.Path.{Origin, absolute, relative, packaged, Path, led, shown-origin, shown, PlainOrigin, Sound, words, path-of, is-path, origin-words, path-words}
+use Rattle.wesl_path.specs.Path.{Origin, absolute, relative, packaged, words, path-of, is-path, origin-words, path-words}
 use Rattle.wesl_path.specs.Heads.{kind-of, HeadOf}
 use Rattle.wesl_path.specs.declared.origin.PathOrigin.{PathOrigin}
-use Rattle.wesl_path.specs.declared.origin.PathOrigin.the-variants.{Absolute, Relative, Package}
 use Rattle.wesl_path.specs.declared.origin.Head.{Head}
 use Rattle.wesl_path.specs.Texts.{path-text, path-value, name-text}
 use Rattle.wesl_path.specs.declared.module_path.ModulePath.{ModulePath}

@@ -1,12 +1,11 @@
 -- What is owed of every Mangler, and the words that its results are made of.
 use mathlib.Core.Path.{_≡_}
-use mathlib.Core.Bool.{Bool, true, false, cond, _&&_}
+use mathlib.Core.Bool.{Bool, true, _&&_}
 use mathlib.Core.List.{List, [], _∷_, _++_}
-use Prim.Native.Nat.{ℕ, zero, suc, _+_, _-_, _*_, _≤_}
-use lib.ListN.{length, take, drop, replicate}
-use lib.Chars.{codes}
-use Rattle.wesl_path.specs.Name.{digit, word-bytes, starts-well}
-use Rattle.wesl_path.specs.Path.{Origin, absolute, relative, packaged, Path}
+use Prim.Native.Nat.{ℕ, _+_, _-_, _*_, _≤_}
+use lib.ListN.{length, take, drop}
+use Rattle.wesl_path.specs.Name.{word-bytes, starts-well}
+use Rattle.wesl_path.specs.Path.{Origin, absolute, packaged, Path}
 
 -- a declaration by its module's path and its own name
 pub record Item : Type 0 where

@@ -1,7 +1,7 @@
 //! Writing the words of a name, one after another, into a cell.
 ghost use mathlib.Core.Path.{_≡_};
-ghost use mathlib.Core.List.{List, [], _∷_, _++_};
-ghost use Prim.Native.Nat.{ℕ, _+_, _≤_, _<_};
+ghost use mathlib.Core.List.{_++_};
+ghost use Prim.Native.Nat.{_+_, _≤_, _<_};
 ghost use lib.Chars.{codes};
 ghost use lib.ListN.{length, take, drop};
 ghost use Rattle.std.specs.Written.{decimal};

@@ -1,7 +1,7 @@
 -- Components without an origin are read in one way.
 use native.Mathlib.Omega.{arith}
-use mathlib.Core.Path.{_≡_, refl, sym, ap, subst, _∙_}
-use mathlib.Core.Bool.{Bool, true, false}
+use mathlib.Core.Path.{_≡_, sym, ap, subst, _∙_}
+use mathlib.Core.Bool.{true, false}
 use mathlib.Core.List.{List, [], _∷_, _++_}
 use Prim.Native.Nat.{ℕ, _+_, _-_, _≤_, _<_}
 use lib.Dec.{eqb, leb}
@@ -16,7 +16,7 @@ use Rattle.std.proofs.shelf.Equals.{sameBytes-decides}
 use Rattle.wesl_path.specs.Name.{plain, Plain}
 use Rattle.wesl_path.specs.Path.{led, words, all-plain}
 use Rattle.wesl_path.specs.Components.{AreComponents, are-components}
-use Rattle.wesl_path.specs.Words.{first-word, after-word, Boundary, Passing}
+use Rattle.wesl_path.specs.Words.{first-word, after-word, Passing}
 use Rattle.wesl_path.specs.declared.words.Step.the-variants.{Component}
 use Rattle.wesl_path.proofs.WordFacts.{plain-inner, first-is, after-is, first-taken, word-parts, led-prefix, led-all}
 use Rattle.wesl_path.proofs.PathFacts.{components-edge, words-after-lead, words-components, all-plain-decides}

@@ -1,10 +1,10 @@
 -- Joined and extended paths, as they are written.
 use native.Mathlib.Omega.{arith}
 use mathlib.Core.Path.{_≡_, refl, sym, ap, subst, _∙_}
-use mathlib.Core.Bool.{Bool, true, false, cond}
+use mathlib.Core.Bool.{true, false, cond}
 use mathlib.Core.Logic.{inl, inr}
 use mathlib.Core.List.{List, [], _∷_, _++_}
-use Prim.Native.Nat.{ℕ, zero, suc, _+_, _-_, _≤_, _<_}
+use Prim.Native.Nat.{ℕ, _-_, _≤_, _<_}
 use native.Mathlib.Nat.{sub-zero}
 use lib.ListN.{length, take, drop}
 use lib.Chars.{codes}
@@ -13,27 +13,7 @@ use Rattle.std.proofs.shelf.Elements.{all-append, all-take}
 use Rattle.std.proofs.shelf.Lists.{append-assoc, append-nil, length-append, length-drop, take-append-drop, take-at, take-rest}
 use Rattle.std.proofs.shelf.Tests.{cases-lt}
 use Rattle.wesl_path.specs.Name.{Plain}
-use Rattle.wesl_path.specs.Path.{
-  Origin,
-  absolute,
-  relative,
-  packaged,
-  Path,
-  led,
-  shown-origin,
-  shown,
-  PlainOrigin,
-  Sound,
-  without-last,
-  within,
-  joined-from,
-  join-path,
-  extended,
-  words,
-  path-of,
-  is-path,
-}
-use Rattle.wesl_path.specs.Components.{are-components}
+use Rattle.wesl_path.specs.Path.{Origin, absolute, relative, packaged, Path, led, shown-origin, shown, PlainOrigin, without-last, within, joined-from, join-path, extended, path-of, is-path}
 use Rattle.wesl_path.specs.Words.{Passing}
 use Rattle.wesl_path.specs.Heads.{kind-of, HeadOf}
 use Rattle.wesl_path.specs.Joins.{Seamed, in-package}
@@ -42,11 +22,10 @@ use Rattle.wesl_path.specs.declared.components.Components.{Components}
 use Rattle.wesl_path.specs.declared.module_path.ModulePath.{ModulePath}
 use Rattle.wesl_path.specs.declared.name.PlainName.{PlainName}
 use Rattle.wesl_path.specs.declared.words.Step.the-variants.{Component}
-use Rattle.wesl_path.specs.declared.origin.PathOrigin.{PathOrigin}
 use Rattle.wesl_path.specs.declared.origin.PathOrigin.the-variants.{Absolute, Relative, Package}
 use Rattle.wesl_path.specs.declared.origin.Head.{Head}
 use Rattle.wesl_path.specs.declared.join.Seam.{Seam}
-use Rattle.wesl_path.proofs.WordFacts.{Prefix, led-all}
+use Rattle.wesl_path.proofs.WordFacts.{led-all}
 use Rattle.wesl_path.proofs.PathFacts.{path-back, path-from-test, test-from-path}
 use Rattle.wesl_path.proofs.PassedFacts.{own-prefix}
 use Rattle.wesl_path.proofs.ComponentFacts.{components-from-test}

@@ -1,29 +1,26 @@
 -- The origin of a path is told by its first word and by the words that follow.
 use native.Mathlib.Omega.{arith}
 use mathlib.Core.Path.{_≡_, refl, sym, ap, subst, _∙_}
-use mathlib.Core.Bool.{Bool, true, false}
+use mathlib.Core.Bool.{true, false}
 use mathlib.Core.List.{List, [], _∷_, _++_}
-use Prim.Native.Nat.{ℕ, zero, suc, _+_, _-_, _≤_, _<_, _^_}
+use Prim.Native.Nat.{ℕ, zero, suc, _+_, _-_, _≤_, _<_}
 use native.Mathlib.Numerals.{one-add}
-use native.Mathlib.Nat.{zero-add}
 use lib.ListN.{length, take, drop, replicate}
 use lib.Chars.{codes}
 use Rattle.std.specs.shelf.Lists.{All}
 use Rattle.std.specs.shelf.Text.{sameBytes}
-use Rattle.std.proofs.shelf.Lists.{append-assoc, append-nil, append-cancel-left, length-replicate, length-append, length-drop, drop-at, drop-drop}
+use Rattle.std.proofs.shelf.Lists.{append-assoc, append-cancel-left, length-replicate, drop-at}
 use Rattle.std.proofs.shelf.Tests.{both-ways}
 use Rattle.std.proofs.shelf.Equals.{sameBytes-decides}
 use Rattle.wesl_path.specs.Name.{plain, Plain}
 use Rattle.wesl_path.specs.Path.{Origin, absolute, relative, packaged, Path, led, shown-origin, shown, PlainOrigin}
-use Rattle.wesl_path.specs.Words.{first-word, after-word, Boundary, lead-of, Fits, NotLed, Passing}
+use Rattle.wesl_path.specs.Words.{first-word, after-word, Boundary, Fits, NotLed, Passing}
 use Rattle.wesl_path.specs.Heads.{kind-of, Headed, Headless}
-use Rattle.wesl_path.specs.declared.words.Step.{Step}
-use Rattle.wesl_path.specs.declared.words.Step.the-variants.{Part, Super, Component}
-use Rattle.wesl_path.specs.declared.origin.PathOrigin.{PathOrigin}
+use Rattle.wesl_path.specs.declared.words.Step.the-variants.{Part, Super}
 use Rattle.wesl_path.specs.declared.origin.PathOrigin.the-variants.{Absolute, Relative, Package}
 use Rattle.wesl_path.specs.declared.origin.Head.{Head}
-use Rattle.wesl_path.proofs.WordFacts.{Inner, plain-inner, first-is, after-is, first-taken, word-parts, after-edge, led-edge, Prefix, led-prefix, led-all, word-within}
-use Rattle.wesl_path.proofs.PathFacts.{Solid, super-solid, components-edge, Free, plain-is-free}
+use Rattle.wesl_path.proofs.WordFacts.{Inner, plain-inner, first-is, after-is, first-taken, word-parts, after-edge, led-edge, led-prefix, led-all, word-within}
+use Rattle.wesl_path.proofs.PathFacts.{super-solid, components-edge, plain-is-free}
 
 -- an origin's first word, and what follows that
 abbrev first-of : Origin → List ℕ

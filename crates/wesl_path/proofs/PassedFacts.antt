@@ -1,9 +1,9 @@
 -- The components that are passed after a path's origin are the path's.
 use native.Mathlib.Omega.{arith}
-use mathlib.Core.Path.{_≡_, refl, sym, ap, subst, _∙_}
-use mathlib.Core.Bool.{Bool, true, false}
-use mathlib.Core.List.{List, [], _∷_, _++_}
-use Prim.Native.Nat.{ℕ, _+_, _-_, _≤_, _<_}
+use mathlib.Core.Path.{_≡_, sym, ap, subst, _∙_}
+use mathlib.Core.Bool.{Bool, true}
+use mathlib.Core.List.{List, [], _++_}
+use Prim.Native.Nat.{ℕ, _-_, _≤_, _<_}
 use lib.Dec.{eqb}
 use lib.ListN.{length, take, drop}
 use lib.Chars.{codes}
@@ -15,8 +15,8 @@ use Rattle.std.proofs.shelf.Equals.{sameBytes-decides}
 use Rattle.std.proofs.shelf.Ways.{decides-at, decides-like}
 use Rattle.std.proofs.shelf.Tests.{eqb-true, eq-eqb}
 use Rattle.wesl_path.specs.Name.{Plain}
-use Rattle.wesl_path.specs.Path.{Origin, Path, led, shown-origin, shown, PlainOrigin, Sound, IsPath, path-of, is-path}
-use Rattle.wesl_path.specs.Words.{Boundary, lead-of, Fits, NotLed, Passing}
+use Rattle.wesl_path.specs.Path.{Path, led, shown-origin, shown, PlainOrigin, IsPath, path-of, is-path}
+use Rattle.wesl_path.specs.Words.{Boundary, NotLed, Passing}
 use Rattle.wesl_path.specs.Heads.{kind-of, Headed, Headless, HeadOf}
 use Rattle.wesl_path.specs.Texts.{path-text, SameAnswer}
 use Rattle.wesl_path.specs.declared.module_path.ModulePath.{ModulePath}

@@ -1,51 +1,23 @@
 -- Paths: what is printed is read back, and in one way.
 use native.Mathlib.Omega.{arith}
 use mathlib.Core.Path.{_≡_, refl, sym, ap, subst, _∙_}
-use mathlib.Core.Bool.{Bool, true, false, cond, _&&_, _||_}
-use mathlib.Core.Logic.{inl, inr}
+use mathlib.Core.Bool.{true, false, cond}
 use mathlib.Core.List.{List, [], _∷_, _++_}
 use Prim.Native.Nat.{ℕ, zero, suc, _+_, _-_, _≤_, _<_}
-use native.Mathlib.Nat.{add-zero, zero-add}
-use native.Mathlib.Numerals.{one-add}
+use native.Mathlib.Nat.{zero-add}
 use lib.Dec.{leb, eqb}
 use lib.ListN.{length, take, drop, replicate}
 use lib.Chars.{codes}
 use Rattle.std.specs.Orderings.{Decides}
-use Rattle.std.specs.shelf.Lists.{All, countBy}
+use Rattle.std.specs.shelf.Lists.{All}
 use Rattle.std.specs.shelf.Text.{sameBytes}
 use Rattle.std.proofs.shelf.Lists.{append-assoc, append-nil, take-at, drop-at, drop-drop, drop-all, nil-from-length}
 use Rattle.std.proofs.shelf.Sums.{sumBy-append, sumBy-cons}
-use Rattle.std.proofs.shelf.Tests.{and-parts, and-from, or-parts, cond-true, cond-false, leb-true, le-leb}
-use Rattle.std.proofs.shelf.Ways.{tells, decides-by-and, decides-eqb}
+use Rattle.std.proofs.shelf.Tests.{and-parts, and-from, or-parts, leb-true, le-leb}
+use Rattle.std.proofs.shelf.Ways.{tells, decides-by-and}
 use Rattle.std.proofs.shelf.Equals.{sameBytes-decides}
-use Rattle.wesl_path.specs.Name.{word-bytes, starts-well, reserved, plain, Plain}
-use Rattle.wesl_path.specs.Path.{
-  origin-words,
-  path-words,
-  Origin,
-  absolute,
-  relative,
-  packaged,
-  Path,
-  led,
-  shown-origin,
-  shown,
-  PlainOrigin,
-  Sound,
-  IsPath,
-  parts-words,
-  onto-first,
-  pieces,
-  without-empty,
-  words,
-  slashes,
-  after-super,
-  of-words,
-  path-of,
-  all-plain,
-  plain-origin,
-  is-path,
-}
+use Rattle.wesl_path.specs.Name.{reserved, plain, Plain}
+use Rattle.wesl_path.specs.Path.{origin-words, path-words, Origin, absolute, relative, packaged, Path, led, shown, PlainOrigin, Sound, IsPath, parts-words, onto-first, pieces, without-empty, words, slashes, after-super, of-words, path-of, all-plain, plain-origin, is-path}
 use Rattle.wesl_path.specs.Words.{first-word, after-word, Boundary, lead-of}
 use Rattle.wesl_path.specs.declared.words.Step.{Step}
 use Rattle.wesl_path.specs.declared.words.Step.the-variants.{Part, Super, Component}

@@ -1,10 +1,10 @@
 -- Words: where they end, and that there is one way to read words that follow one another.
 use native.Mathlib.Omega.{arith}
 use mathlib.Core.Path.{_≡_, refl, sym, ap, subst, _∙_}
-use mathlib.Core.Bool.{Bool, true, false, not, cond, _&&_}
+use mathlib.Core.Bool.{true, false, cond}
 use mathlib.Core.Logic.{inl, inr}
 use mathlib.Core.List.{List, [], _∷_, _++_}
-use Prim.Native.Nat.{ℕ, zero, suc, _+_, _-_, _≤_, _<_}
+use Prim.Native.Nat.{ℕ, _+_, _-_, _≤_, _<_}
 use lib.Dec.{leb, lit<}
 use lib.ListN.{length, take, drop, getD}
 use native.Mathlib.Numerals.{one-add}
@@ -13,7 +13,7 @@ use Rattle.std.specs.shelf.Lists.{All}
 use Rattle.std.specs.shelf.Text.{sameBytes}
 use Rattle.std.proofs.shelf.Lists.{append-assoc, append-nil, length-push, append-cancel-left, at-drop-more, at-drop-all, take-append-drop, take-at, drop-at, drop-drop, length-drop, length-append}
 use Rattle.std.proofs.shelf.Elements.{all-drop, all-push}
-use Rattle.std.proofs.shelf.Tests.{and-parts, leb-true, cond-true, cond-false, cases-bool, not-true, not-false, both-ways}
+use Rattle.std.proofs.shelf.Tests.{and-parts, leb-true, cases-bool, not-true, both-ways}
 use Rattle.std.proofs.shelf.Ways.{tells}
 use Rattle.std.proofs.shelf.Equals.{sameBytes-decides}
 use Rattle.wesl_path.specs.Name.{digit, letter, word-byte, word-bytes, starts-well, reserved, plain, Plain}

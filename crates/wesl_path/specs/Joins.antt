@@ -1,14 +1,14 @@
 -- What joining answers.
 use mathlib.Core.Path.{_≡_}
 use mathlib.Core.Bool.{true, false, cond}
-use mathlib.Core.List.{List, [], _∷_, _++_}
-use Prim.Native.Nat.{ℕ, _+_, _≤_, _<_}
+use mathlib.Core.List.{List, [], _++_}
+use Prim.Native.Nat.{ℕ, _≤_, _<_}
 use lib.ListN.{length, take, drop}
 use lib.Chars.{codes}
 use Rattle.std.specs.declared.result.Result.{Result}
 use Rattle.std.specs.declared.result.Result.the-variants.{Ok, Err}
-use Rattle.wesl_path.specs.Path.{Origin, absolute, relative, packaged, Path, led, shown-origin, shown, without-last, join-path, extended, path-of, words}
-use Rattle.wesl_path.specs.Texts.{path-text, path-value}
+use Rattle.wesl_path.specs.Path.{Origin, absolute, relative, packaged, Path, shown, join-path, path-of}
+use Rattle.wesl_path.specs.Texts.{path-value}
 use Rattle.wesl_path.specs.declared.fault.PathFault.{PathFault}
 use Rattle.wesl_path.specs.declared.fault.PathFault.the-variants.{Malformed, Relative as Relative′, Long}
 use Rattle.wesl_path.specs.declared.origin.PathOrigin.{PathOrigin}

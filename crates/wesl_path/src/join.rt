@@ -1,11 +1,11 @@
 //! Paths made of paths: appended components, and a path read from a module.
 ghost use mathlib.Core.Path.{_≡_};
-ghost use mathlib.Core.Bool.{Bool, true, false, cond};
-ghost use mathlib.Core.List.{List, [], _∷_, _++_};
-ghost use Prim.Native.Nat.{ℕ, _+_, _-_, _≤_, _<_};
+ghost use mathlib.Core.Bool.{true, false, cond};
+ghost use mathlib.Core.List.{[], _∷_, _++_};
+ghost use Prim.Native.Nat.{_≤_};
 ghost use lib.Chars.{codes};
-ghost use lib.ListN.{length, take, drop};
-ghost use Rattle.wesl_path.specs.Path.{path-of, is-path, shown, shown-origin, led, without-last, join-path, extended};
+ghost use lib.ListN.{length, take};
+ghost use Rattle.wesl_path.specs.Path.{path-of, is-path, shown-origin, led, without-last, join-path, extended};
 ghost use Rattle.wesl_path.specs.Heads.{HeadOf};
 ghost use Rattle.wesl_path.specs.Texts.{path-text, path-value, components-value, name-text};
 ghost use Rattle.wesl_path.specs.Joins.{Given, Joined, Pushed, Seamed, in-package};

@@ -1,7 +1,5 @@
 //! Where a path starts.
-ghost use mathlib.Core.Path.{_≡_};
-ghost use Prim.Native.Nat.{ℕ, _+_, _≤_};
-ghost use lib.ListN.{length, drop};
+ghost use Prim.Native.Nat.{_+_};
 ghost use Rattle.std.specs.Options.{Cases};
 ghost use Rattle.wesl_path.specs.Heads.{Headed, Headless};
 use crate::name::test::is_plain;

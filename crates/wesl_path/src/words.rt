@@ -1,9 +1,9 @@
 //! The words of a text, parted by `:` and `/`, and those that follow one another, each after its lead.
 ghost use mathlib.Core.Path.{_≡_};
-ghost use mathlib.Core.Bool.{Bool, true, false, cond, not, _&&_, _||_};
+ghost use mathlib.Core.Bool.{_&&_, _||_};
 ghost use mathlib.Core.List.{List, _++_};
 ghost use Prim.Native.Nat.{ℕ, _+_, _≤_, _<_};
-ghost use lib.ListN.{length, take, drop, getD};
+ghost use lib.ListN.{length, drop};
 ghost use Rattle.std.specs.Options.{Cases};
 ghost use Rattle.wesl_path.specs.Path.{parts-words};
 ghost use Rattle.wesl_path.specs.Words.{first-word, Boundary, NotLed, LedWord, Passing, lead-of, fitting};

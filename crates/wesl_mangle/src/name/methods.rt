@@ -1,9 +1,6 @@
 //! Mangled names by any Mangler.
 ghost use mathlib.Core.Path.{_≡_};
 ghost use mathlib.Core.Bool.{true};
-ghost use mathlib.Core.List.{List};
-ghost use Prim.Native.Nat.{ℕ};
-ghost use lib.ListN.{take};
 ghost use Rattle.wesl_path.specs.Texts.{path-value, name-text};
 ghost use Rattle.wesl_mangle.specs.Mangle.{is-word};
 ghost use Rattle.wesl_mangle.specs.Names.{mangled-text};

@@ -1,8 +1,6 @@
 //! Whether bytes are a plain name.
 ghost use mathlib.Core.Path.{_≡_};
-ghost use mathlib.Core.Bool.{Bool, true, false, cond, not, _&&_, _||_};
-ghost use Prim.Native.Nat.{ℕ, _+_, _≤_, _<_};
-ghost use lib.ListN.{length, take, drop, getD};
+ghost use mathlib.Core.Bool.{true, false, _&&_, _||_};
 ghost use Rattle.std.specs.shelf.Text.{sameBytes};
 ghost use Rattle.std.specs.Results.{Cases as ByOk};
 ghost use Rattle.wesl_path.specs.Texts.{name-text};

@@ -1,6 +1,5 @@
 use native.Mathlib.Omega.{arith}
-use mathlib.Core.Path.{_≡_, refl, ap, subst, sym, _∙_}
-use lib.ListN.{length}
+use mathlib.Core.Path.{refl}
 use Rattle.wesl_path.specs.Texts.{path-text, name-text}
 use Rattle.wesl_mangle.proofs.WriteFacts.{appended-three}
 use Rattle.wesl_mangle.proofs.PathWords.{kind-small, path-short, name-short, escape-pieces}

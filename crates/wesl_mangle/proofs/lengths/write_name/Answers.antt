@@ -1,5 +1,5 @@
 use native.Mathlib.Omega.{arith}
-use mathlib.Core.Path.{_≡_, refl, ap, subst, sym, _∙_}
+use mathlib.Core.Path.{refl, ap}
 use lib.ListN.{length, drop}
 use Rattle.std.specs.shelf.Lists.{joined}
 use Rattle.wesl_path.specs.Path.{words}

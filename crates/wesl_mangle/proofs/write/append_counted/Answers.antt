@@ -1,10 +1,8 @@
 use native.Mathlib.Omega.{arith}
-use mathlib.Core.Path.{_≡_, refl, ap}
-use mathlib.Core.List.{[], _∷_, _++_}
-use Prim.Native.Nat.{_+_}
+use mathlib.Core.List.{[], _∷_}
 use lib.ListN.{length}
 use Rattle.std.specs.Written.{decimal}
-use Rattle.std.proofs.shelf.Lists.{length-append, append-assoc}
+use Rattle.std.proofs.shelf.Lists.{append-assoc}
 use Rattle.wesl_mangle.specs.Counted.{counted}
 use Rattle.wesl_mangle.proofs.WriteFacts.{appended-more, appended-as, counted-length}
 use Rattle.wesl_mangle.proofs.write.append_counted.Needs as need

@@ -1,5 +1,5 @@
 use native.Mathlib.Omega.{arith}
-use mathlib.Core.Path.{_≡_, sym, ap, subst}
+use mathlib.Core.Path.{sym, ap}
 use lib.ListN.{length}
 use Rattle.wesl_mangle.proofs.WriteFacts.{appended-as, one-digit, two-digits, three-digits}
 use Rattle.wesl_mangle.proofs.write.append_decimal.Needs as need

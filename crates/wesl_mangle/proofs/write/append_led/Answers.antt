@@ -1,9 +1,9 @@
 use native.Mathlib.Omega.{arith}
-use mathlib.Core.Path.{_≡_, sym, ap, _∙_}
-use mathlib.Core.List.{[], _∷_, _++_}
+use mathlib.Core.Path.{sym, ap, _∙_}
+use mathlib.Core.List.{_∷_, _++_}
 use lib.ListN.{length}
 use Rattle.std.specs.Written.{decimal}
-use Rattle.wesl_mangle.specs.Escape.{underscores, escaped}
+use Rattle.wesl_mangle.specs.Escape.{escaped}
 use Rattle.wesl_mangle.proofs.Escapes.{underscores-le}
 use Rattle.wesl_mangle.proofs.WriteFacts.{appended-more, appended-as, escaped-some, escaped-some-length}
 use Rattle.wesl_mangle.proofs.write.append_led.Needs as need

@@ -1,11 +1,8 @@
 use native.Mathlib.Omega.{arith}
-use mathlib.Core.Path.{_≡_, ap, _∙_}
 use mathlib.Core.List.{_++_}
-use Prim.Native.Nat.{_+_}
 use lib.Chars.{codes}
-use lib.ListN.{length}
 use Rattle.std.specs.Written.{decimal}
-use Rattle.std.proofs.shelf.Lists.{append-assoc, length-append}
+use Rattle.std.proofs.shelf.Lists.{append-assoc}
 use Rattle.wesl_mangle.proofs.WriteFacts.{appended-more, appended-as, numbered-length}
 use Rattle.wesl_mangle.proofs.write.append_numbered.Needs as need
 

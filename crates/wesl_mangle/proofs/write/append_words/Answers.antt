@@ -1,11 +1,9 @@
 use native.Mathlib.Omega.{arith}
-use mathlib.Core.Path.{_≡_, sym, ap, _∙_}
-use mathlib.Core.List.{[], _++_}
-use Prim.Native.Nat.{_+_, _-_}
-use lib.ListN.{length, take, drop}
+use mathlib.Core.Path.{sym, ap, _∙_}
+use mathlib.Core.List.{_++_}
+use lib.ListN.{length, take}
 use Rattle.std.specs.shelf.Lists.{joined}
 use Rattle.std.proofs.shelf.Lists.{append-nil}
-use Rattle.wesl_path.specs.Path.{words}
 use Rattle.wesl_path.proofs.PathFacts.{word-here, words-more, words-same, words-none}
 use Rattle.wesl_mangle.specs.Writes.{styled}
 use Rattle.wesl_mangle.proofs.WriteFacts.{words-written, words-length}

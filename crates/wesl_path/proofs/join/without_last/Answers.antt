@@ -1,8 +1,6 @@
 use native.Mathlib.Omega.{arith}
-use mathlib.Core.Path.{_≡_, ap, _∙_}
+use mathlib.Core.Path.{ap, _∙_}
 use Prim.Native.Nat.{_-_}
-use lib.ListN.{length}
-use Rattle.wesl_path.specs.Path.{path-of}
 use Rattle.wesl_path.proofs.PassedFacts.{own-count, own-edge, own-short}
 use Rattle.wesl_path.proofs.JoinFacts.{cut-front}
 use Rattle.wesl_path.proofs.join.without_last.Needs as need

@@ -1,4 +1,3 @@
-use borrow.Author.Needs.{needs}
 use native.Mathlib.Omega.{arith}
 use mathlib.Core.Path.{sym}
 use Rattle.wesl_path.proofs.OriginFacts.{head-edge, headed-package, headed-self, headed-super, headed-parts, headless-at}

@@ -1,10 +1,7 @@
 use borrow.Author.Needs.{needs}
 use native.Mathlib.Omega.{arith}
-use mathlib.Core.Path.{_≡_, sym, ap, _∙_}
+use mathlib.Core.Path.{sym, ap, _∙_}
 use mathlib.Core.List.{_++_}
-use lib.ListN.{length, drop}
-use Rattle.std.proofs.shelf.Lists.{length-append, length-drop}
-use Rattle.wesl_path.specs.Words.{lead-of}
 use Rattle.wesl_path.proofs.WordFacts.{led-word-at, led-word-other, rest-within}
 use Rattle.wesl_path.proofs.words.led_word.Needs as need
 

@@ -1,6 +1,5 @@
-use borrow.Author.Needs.{needs}
 use native.Mathlib.Omega.{arith}
-use Rattle.wesl_path.proofs.WordFacts.{pass-none, pass-more, pass-stops}
+use Rattle.wesl_path.proofs.WordFacts.{pass-more}
 use Rattle.wesl_path.proofs.words.pass.Needs as need
 
 pub loop-passed-again : need.loop-passed-again

@@ -1,7 +1,7 @@
 use native.Mathlib.Omega.{arith}
-use mathlib.Core.Path.{_≡_, sym, subst, _∙_}
+use mathlib.Core.Path.{_≡_, sym, subst}
 use mathlib.Core.Bool.{true}
-use lib.ListN.{length, replicate}
+use lib.ListN.{replicate}
 use Rattle.wesl_path.specs.Components.{are-components}
 use Rattle.wesl_path.proofs.Fronts.{one-written}
 use Rattle.wesl_path.proofs.ComponentFacts.{test-from-components}

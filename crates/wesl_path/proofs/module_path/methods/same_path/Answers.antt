@@ -1,6 +1,4 @@
 use borrow.Author.Needs.{needs}
-use mathlib.Core.Path.{_≡_, ap, _∙_}
-use Rattle.std.specs.shelf.Text.{sameBytes}
 use Rattle.wesl_path.proofs.PassedFacts.{same-answer}
 use Rattle.wesl_path.proofs.module_path.methods.same_path.Needs as need
 

@@ -1,5 +1,4 @@
 use borrow.Author.Needs.{needs}
-use Rattle.std.proofs.shelf.Ways.{tells}
 use Rattle.wesl_path.specs.Name.{reserved}
 use Rattle.wesl_path.proofs.name.test.is_reserved.Needs as need
 

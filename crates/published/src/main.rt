@@ -1,5 +1,7 @@
 //! Runs the examples that were published with the escape Mangler, and some of paths that are put together. What is right
 //! stands in the file `stdout`, taken from those examples and not from a run.
+#![tactic(auto)]
+
 use std::io;
 use std::io::{BufWriter, Write};
 use wesl_mangle::{EscapeMangler, MangledName};

@@ -1,4 +1,6 @@
 //! Answers the commands of standard input, a line for each, on standard output.
+#![tactic(auto)]
+
 mod answer;
 mod command;
 

@@ -1,4 +1,6 @@
 //! `wesl`: names the declarations of shader modules, and lists the modules of a bundle.
+#![tactic(auto)]
+
 mod broken;
 mod bundled;
 mod command;

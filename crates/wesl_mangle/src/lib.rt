@@ -1,4 +1,6 @@
 //! Manglers: names for the declarations of all modules in one output.
+#![tactic(auto)]
+
 pub mod escape;
 pub mod examples;
 pub mod fault;

@@ -1,4 +1,6 @@
 //! Plain names and module paths: reading, printing, comparing and joining.
+#![tactic(auto)]
+
 pub mod cells;
 pub mod components;
 pub mod fault;

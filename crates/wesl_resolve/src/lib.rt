@@ -1,4 +1,6 @@
 //! Resolvers: where the texts of modules come from.
+#![tactic(auto)]
+
 pub mod ask;
 pub mod bundle;
 pub mod cell;

@@ -3,8 +3,7 @@ ghost use Rattle.std.specs.Prelude.{◌≡◌, ◌+◌, ◌<◌, ◌≤◌, true
 ghost use Rattle.wesl_path.specs.Path.{IsPath, is_path_text};
 ghost use Rattle.wesl_path.specs.Heads.{HeadOf, kind_of};
 ghost use Rattle.wesl_path.specs.Texts.{path_text, path_value, SameAnswer, Equivalence};
-ghost use Rattle.std.specs.Cmp.Rules.{comparing};
-ghost use Rattle.std.proofs.Common.{rules, arith};
+ghost use Rattle.std.specs.Str.{bytes_eq};
 
 use crate::cells::put;
 use crate::fault::PathFault;
@@ -124,9 +123,9 @@ impl ModulePath {
 }
 
 impl PartialEq for ModulePath {
-    ghost equals = { λ a b r. SameAnswer a b r };
+    ghost eq = { λ a b. bytes_eq (path_text a) (path_text b) };
 
-    ghost laws = { first_of (Prim.search (comparing, rules), Prim.grind (arith, Self.row.coded.inj)) };
+    ghost laws = { ? };
 
     fn eq(&self, other: &ModulePath) -> bool
         ensures same { SameAnswer self.now other.now result }

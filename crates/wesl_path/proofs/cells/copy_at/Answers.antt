@@ -6,5 +6,5 @@ use Rattle.wesl_path.proofs.cells.copy_at.Goals as goal
 pub returns : goal.returns
 returns c =
     let n = length c.args.bytes.now in
-    put_mid-paste c.args.at _ c.args.out.now c.copy-from-slice.new.self c.args.bytes.now n c.copy-from-slice.ensures.after (omega arith) refl
+    put_mid-paste c.args.at _ c.args.out.now c.copy_from_slice.new.self c.args.bytes.now n c.copy_from_slice.ensures.after (omega arith) refl
     ∙ paste_all c.args.out.now c.args.at c.args.bytes.now n refl

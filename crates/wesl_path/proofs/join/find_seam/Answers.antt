@@ -30,5 +30,5 @@ pub returns-in-Package : goal.returns-in-Package
 returns-in-Package c =
     let p = c.args.base.now in
     let q = c.args.suffix.now in
-    subst (Seamed (path_text p) (path_text q)) (sym c.package-seam.ensures)
+    subst (Seamed (path_text p) (path_text q)) (sym c.package_seam.ensures)
     (seam_package (path_text p) (path_text q) c.head-head.result c.head-tail.result p.valid q.valid c.head-head.ensures c.head-tail.ensures c.in-Package.field-0 c.in-Package.is)

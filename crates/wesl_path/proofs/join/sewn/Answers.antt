@@ -3,18 +3,18 @@ use Rattle.wesl_path.proofs.join.sewn.Goals as goal
 
 pub written-requires : goal.written-requires
 written-requires c =
-    let m = sewn_made c.args.base.now c.args.suffix.now c.find-seam-cut.result c.as-bytes-front.result.now c.as-bytes-back.result.now c.separator.result.now c.find-seam-cut.ensures
-    c.as-bytes-front.ensures.value c.as-bytes-back.ensures.value c.separator.ensures in
+    let m = sewn_made c.args.base.now c.args.suffix.now c.find_seam-cut.result c.as_bytes-front.result.now c.as_bytes-back.result.now c.separator.result.now c.find_seam-cut.ensures
+    c.as_bytes-front.ensures.value c.as_bytes-back.ensures.value c.separator.ensures in
     made_path _ _ m
 
 pub returns-in-Some : goal.returns-in-Some
 returns-in-Some c =
-    let m = sewn_made c.args.base.now c.args.suffix.now c.find-seam-cut.result c.as-bytes-front.result.now c.as-bytes-back.result.now c.separator.result.now c.find-seam-cut.ensures
-    c.as-bytes-front.ensures.value c.as-bytes-back.ensures.value c.separator.ensures in
+    let m = sewn_made c.args.base.now c.args.suffix.now c.find_seam-cut.result c.as_bytes-front.result.now c.as_bytes-back.result.now c.separator.result.now c.find_seam-cut.ensures
+    c.as_bytes-front.ensures.value c.as_bytes-back.ensures.value c.separator.ensures in
     made_value _ _ c.in-Some.path m c.in-Some.ensures
 
 pub returns-in-None : goal.returns-in-None
 returns-in-None c =
-    let m = sewn_made c.args.base.now c.args.suffix.now c.find-seam-cut.result c.as-bytes-front.result.now c.as-bytes-back.result.now c.separator.result.now c.find-seam-cut.ensures
-    c.as-bytes-front.ensures.value c.as-bytes-back.ensures.value c.separator.ensures in
+    let m = sewn_made c.args.base.now c.args.suffix.now c.find_seam-cut.result c.as_bytes-front.result.now c.as_bytes-back.result.now c.separator.result.now c.find_seam-cut.ensures
+    c.as_bytes-front.ensures.value c.as_bytes-back.ensures.value c.separator.ensures in
     made_long _ _ m c.in-None.ensures

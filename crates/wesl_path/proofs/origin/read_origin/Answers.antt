@@ -10,7 +10,7 @@ returns-then-same-bytes-2 c = headed_self c.args.text.now c.word-end-end.result 
 
 pub pass-more-requires : goal.pass-more-requires
 pass-more-requires c =
-    let h = head_edge c.args.text.now c.word-end-end.result c.word-end-end.ensures.value in
+    let h = head_edge c.args.text.now c.word_end-end.result c.word_end-end.ensures.value in
     record { within = h.0; edge = h.1 }
 
 pub returns-then-same-bytes-3 : goal.returns-then-same-bytes-3
@@ -25,10 +25,10 @@ returns-then-not-is-plain c =
 
 pub pass-more-requires-2 : goal.pass-more-requires-2
 pass-more-requires-2 c =
-    let h = head_edge c.args.text.now c.word-end-end.result c.word-end-end.ensures.value in
+    let h = head_edge c.args.text.now c.word_end-end.result c.word_end-end.ensures.value in
     record { within = h.0; edge = h.1 }
 
 pub returns : goal.returns
 returns c =
-    headed_parts c.args.text.now c.word-end-end.result c.word-end-end.ensures.value (sym c.if-not-is-plain.ensures) 18446744073709551615
-    c.pass-more-2.result.count c.pass-more-2.result.end (let a = c.pass-more-2.ensures.ahead in let w = c.pass-more-2.ensures.within in omega (arith, c.well-formed)) c.pass-more-2.ensures
+    headed_parts c.args.text.now c.word_end-end.result c.word_end-end.ensures.value (sym c.if-not-is_plain.ensures) 18446744073709551615
+    c.pass-more-2.result.count c.pass-more-2.result.end (let a = c.pass-more-2.ensures.ahead in let w = c.pass-more-2.ensures.within in omega (arith, c.good)) c.pass-more-2.ensures

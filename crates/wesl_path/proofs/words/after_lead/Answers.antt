@@ -14,5 +14,5 @@ pub returns : goal.returns
 returns c =
     let text = c.args.text.now in
     let at = c.args.at in
-    from-there text c.args.lead.now at c.strip-prefix.result
-    (strip_prefix_is Decides-eqb (take (length text - at) (drop at text)) c.args.lead.now c.strip-prefix.result c.strip-prefix.ensures.cases)
+    from-there text c.args.lead.now at c.strip_prefix.result
+    (strip_prefix_is Decides-eqb (take (length text - at) (drop at text)) c.args.lead.now c.strip_prefix.result c.strip_prefix.ensures.cases)

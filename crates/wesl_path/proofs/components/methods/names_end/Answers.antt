@@ -8,11 +8,11 @@ returns-then-not-is-plain c = no_components c.args.text.now c.word-end-end.resul
 
 pub pass-requires : goal.pass-requires
 pass-requires c =
-    let h = head_edge c.args.text.now c.word-end-end.result c.word-end-end.ensures.value in
+    let h = head_edge c.args.text.now c.word_end-end.result c.word_end-end.ensures.value in
     record { within = h.0; edge = h.1 }
 
 pub returns : goal.returns
 returns c =
-    λ s. passed_components c.args.text.now c.word-end-end.result c.word-end-end.ensures.value (sym c.if-not-is-plain.ensures) s
+    λ s. passed_components c.args.text.now c.word_end-end.result c.word_end-end.ensures.value (sym c.if-not-is_plain.ensures) s
     18446744073709551615 c.pass.result.count c.pass.result.end
-    (let a = c.pass.ensures.ahead in let w = c.pass.ensures.within in omega (arith, c.well-formed)) c.pass.ensures
+    (let a = c.pass.ensures.ahead in let w = c.pass.ensures.within in omega (arith, c.good)) c.pass.ensures

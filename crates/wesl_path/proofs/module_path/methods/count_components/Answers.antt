@@ -6,15 +6,15 @@ use Rattle.wesl_path.proofs.module_path.methods.count_components.Goals as goal
 
 pub pass-requires : goal.pass-requires
 pass-requires c =
-    let head = subst (λ x. HeadOf x c.head-of-end.result) (sym c.as-bytes.ensures.value) c.head-of-end.ensures in
-    record { within = head.within; edge = own_edge c.as-bytes.result.now c.head-of-end.result head }
+    let head = subst (λ x. HeadOf x c.head_of-end.result) (sym c.as_bytes.ensures.value) c.head_of-end.ensures in
+    record { within = head.within; edge = own_edge c.as_bytes.result.now c.head_of-end.result head }
 
 pub returns : goal.returns
 returns c =
-    let text = c.as-bytes.result.now in
-    let head = subst (λ x. HeadOf x c.head-of-end.result) (sym c.as-bytes.ensures.value) c.head-of-end.ensures in
-    let s = own_short text c.as-bytes.ensures.valid in
+    let text = c.as_bytes.result.now in
+    let head = subst (λ x. HeadOf x c.head_of-end.result) (sym c.as_bytes.ensures.value) c.head_of-end.ensures in
+    let s = own_short text c.as_bytes.ensures.valid in
     let a = c.pass.ensures.ahead in
     let w = c.pass.ensures.within in
-    own_count text c.head-of-end.result c.as-bytes.ensures.valid head 18446744073709551615 c.pass.result.count c.pass.result.end c.pass.ensures (omega arith)
-    ∙ ap (λ x. length (path_of x).components) c.as-bytes.ensures.value
+    own_count text c.head_of-end.result c.as_bytes.ensures.valid head 18446744073709551615 c.pass.result.count c.pass.result.end c.pass.ensures (omega arith)
+    ∙ ap (λ x. length (path_of x).components) c.as_bytes.ensures.value

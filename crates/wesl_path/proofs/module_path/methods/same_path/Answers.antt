@@ -6,10 +6,10 @@ pub returns : goal.returns
 returns c =
     record {
       same =
-          same_answer c.args.a.now c.args.b.now c.same-bytes.result
-          (let a = c.as-bytes.ensures.value in
-          let b = c.as-bytes-2.ensures.value in
-          let e = c.same-bytes.ensures in
+          same_answer c.args.a.now c.args.b.now c.same_bytes.result
+          (let a = c.as_bytes.ensures.value in
+          let b = c.as_bytes-2.ensures.value in
+          let e = c.same_bytes.ensures in
           cc);
       lawful = search rules;
     }

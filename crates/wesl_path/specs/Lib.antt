@@ -6,3 +6,4 @@ pub mod Faults
 pub mod Heads
 pub mod Texts
 pub mod Joins
+pub mod Equality

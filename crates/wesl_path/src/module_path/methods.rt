@@ -3,7 +3,7 @@ ghost use Rattle.std.specs.Prelude.{◌≡◌, ◌+◌, ◌<◌, ◌≤◌, true
 ghost use Rattle.wesl_path.specs.Path.{IsPath, is_path_text};
 ghost use Rattle.wesl_path.specs.Heads.{HeadOf, kind_of};
 ghost use Rattle.wesl_path.specs.Texts.{path_text, path_value, SameAnswer, Equivalence};
-ghost use Rattle.std.specs.Str.{bytes_eq};
+ghost use Rattle.wesl_path.specs.Equality.{path_eq, path_eq_laws};
 
 use crate::cells::put;
 use crate::fault::PathFault;
@@ -123,9 +123,9 @@ impl ModulePath {
 }
 
 impl PartialEq for ModulePath {
-    ghost eq = { λ a b. bytes_eq (path_text a) (path_text b) };
+    ghost eq = { path_eq };
 
-    ghost laws = { ? };
+    ghost laws = { path_eq_laws };
 
     fn eq(&self, other: &ModulePath) -> bool
         ensures same { SameAnswer self.now other.now result }

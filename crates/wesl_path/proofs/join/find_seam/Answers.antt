@@ -12,19 +12,19 @@ returns-in-Absolute c =
     let q = c.args.suffix.now in
     seam_absolute (path_text p) (path_text q) c.head-head.result c.head-tail.result p.valid q.valid c.head-head.ensures c.head-tail.ensures c.in-Absolute.is
 
-pub without-last-requires : goal.without-last-requires
-without-last-requires c =
-    record { valid = c.as-bytes.ensures.valid; own = subst (λ x. HeadOf x c.head-head.result) (sym c.as-bytes.ensures.value) c.head-head.ensures }
+pub without_last-requires : goal.without_last-requires
+without_last-requires c =
+    record { valid = c.as_bytes.ensures.valid; own = subst (λ x. HeadOf x c.head-head.result) (sym c.as_bytes.ensures.value) c.head-head.ensures }
 
 pub returns-in-Relative : goal.returns-in-Relative
 returns-in-Relative c =
     let p = c.args.base.now in
     let q = c.args.suffix.now in
-    let cut = c.without_last_names.result in
-    let e = c.as-bytes.ensures.value in
+    let cut = c.without_last.result in
+    let e = c.as_bytes.ensures.value in
     seam_relative (path_text p) (path_text q) c.head-head.result c.head-tail.result p.valid q.valid c.head-head.ensures c.head-tail.ensures c.in-Relative.n cut c.in-Relative.is
-    (subst (λ x. cut ≤ length x) e c.without_last_names.ensures.within)
-    (subst (λ x. take cut x ≡ shown_origin (path_of x).origin ++ led (codes "::") (without_last_names c.in-Relative.n (path_of x).components)) e c.without_last_names.ensures.front)
+    (subst (λ x. cut ≤ length x) e c.without_last.ensures.within)
+    (subst (λ x. take cut x ≡ shown_origin (path_of x).origin ++ led (codes "::") (without_last_names c.in-Relative.n (path_of x).components)) e c.without_last.ensures.front)
 
 pub returns-in-Package : goal.returns-in-Package
 returns-in-Package c =

@@ -4,10 +4,10 @@ use Rattle.wesl_path.proofs.JoinFacts.{cut_front}
 use Rattle.wesl_path.proofs.join.without_last.Goals as goal
 
 pub pass-all-requires : goal.pass-all-requires
-pass-all-requires c = record { within = c.requires.own.within; edge = own_edge c.args.text.now c.args.head c.requires.own_val }
+pass-all-requires c = record { within = c.requires.own.within; edge = own_edge c.args.text.now c.args.head c.requires.own }
 
 pub pass-requires : goal.pass-requires
-pass-requires c = record { within = c.requires.own.within; edge = own_edge c.args.text.now c.args.head c.requires.own_val }
+pass-requires c = record { within = c.requires.own.within; edge = own_edge c.args.text.now c.args.head c.requires.own }
 
 pub returns : goal.returns
 returns c =
@@ -15,10 +15,10 @@ returns c =
     let s = own_short text c.requires.valid in
     let a = c.pass-all.ensures.ahead in
     let w = c.pass-all.ensures.within in
-    let all = own_count text c.args.head c.requires.valid c.requires.own_val 18446744073709551615 c.pass-all.result.count c.pass-all.result.end c.pass-all.ensures (omega arith) in
+    let all = own_count text c.args.head c.requires.valid c.requires.own 18446744073709551615 c.pass-all.result.count c.pass-all.result.end c.pass-all.ensures (omega arith) in
     record {
       front =
-          cut_front text c.args.head c.requires.valid c.requires.own_val c.args.n c.saturating-sub.result c.pass.result.count c.pass.result.end c.pass.ensures
-          (c.saturating-sub.ensures ∙ ap (λ k. k - c.args.n) all);
+          cut_front text c.args.head c.requires.valid c.requires.own c.args.n c.saturating_sub.result c.pass.result.count c.pass.result.end c.pass.ensures
+          (c.saturating_sub.ensures ∙ ap (λ k. k - c.args.n) all);
       within = c.pass.ensures.within;
     }

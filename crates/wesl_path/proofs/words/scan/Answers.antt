@@ -12,8 +12,8 @@ loop-end-preserved c =
     let e = word_length_more c.args.text.now c.loop-end.end (omega arith) (search rules) in
     omega (arith, e)
 
-pub returns-else-not-is-parting : goal.returns-else-not-is-parting
-returns-else-not-is-parting c =
+pub returns-else-not-is_parting : goal.returns-else-not-is_parting
+returns-else-not-is_parting c =
     let e = word_length_end c.args.text.now c.loop-end.end (omega arith) (search rules) in
     let v : c.loop-end.end ≡ c.args.at + length (first_word (drop c.args.at c.args.text.now)) = omega (arith, e) in
     record { value = v; bound = within c.args.text.now c.args.at c.loop-end.end v }

@@ -7,12 +7,12 @@ use Rattle.wesl_path.proofs.components.methods.kept.Goals as goal
 pub put-requires : goal.put-requires
 put-requires c = let s = c.requires.short in omega arith
 
-pub invariant-of-result : goal.invariant-of-result
-invariant-of-result c =
+pub invariant_of-result : goal.invariant_of-result
+invariant_of-result c =
     let h = c.requires in
     let s = h.short in
     let e = one_written c.args.text.now (replicate 255 0) c.put.new.out (omega arith) c.put.ensures in
-    (s, (subst (λ x. are_components_text x ≡ true) (sym e) (test_from_components c.args.text.now h), tt))
+    record { within = s; valid = subst (λ x. are_components_text x ≡ true) (sym e) (test_from_components c.args.text.now h) }
 
 pub returns : goal.returns
 returns c =

@@ -3,8 +3,8 @@ use Rattle.wesl_path.proofs.OriginFacts.{head_edge}
 use Rattle.wesl_path.proofs.ComponentFacts.{passed_components, no_components}
 use Rattle.wesl_path.proofs.components.methods.names_end.Goals as goal
 
-pub returns-then-not-is-plain : goal.returns-then-not-is-plain
-returns-then-not-is-plain c = no_components c.args.text.now c.word-end-end.result c.word-end-end.ensures.value (sym c.if-not-is-plain.ensures)
+pub returns-then-not-is_plain : goal.returns-then-not-is_plain
+returns-then-not-is_plain c = no_components c.args.text.now c.word_end-end.result c.word_end-end.ensures.value (sym c.if-not-is_plain.ensures)
 
 pub pass-requires : goal.pass-requires
 pass-requires c =
@@ -15,4 +15,4 @@ pub returns : goal.returns
 returns c =
     λ s. passed_components c.args.text.now c.word_end-end.result c.word_end-end.ensures.value (sym c.if-not-is_plain.ensures) s
     18446744073709551615 c.pass.result.count c.pass.result.end
-    (let a = c.pass.ensures.ahead in let w = c.pass.ensures.within in omega (arith, c.good)) c.pass.ensures
+    (let a = c.pass.ensures.ahead in let w = c.pass.ensures.within in omega (arith, c.well_formed)) c.pass.ensures

@@ -7,12 +7,12 @@ use Rattle.wesl_path.proofs.name.test.kept.Goals as goal
 pub put-requires : goal.put-requires
 put-requires c = let s = plain_short c.args.bytes.now c.requires in omega arith
 
-pub invariant-of-result : goal.invariant-of-result
-invariant-of-result c =
+pub invariant_of-result : goal.invariant_of-result
+invariant_of-result c =
     let h = c.requires in
     let s = plain_short c.args.bytes.now h in
     let e = one_written c.args.bytes.now (replicate 64 0) c.put.new.out (omega arith) c.put.ensures in
-    (s, (subst (λ x. plain x ≡ true) (sym e) h, tt))
+    record { within = s; ok = subst (λ x. plain x ≡ true) (sym e) h }
 
 pub returns : goal.returns
 returns c =

@@ -61,7 +61,7 @@ pub(crate) fn first_with<T: Keyed>(
     sought: &[u8],
 ) -> Option<usize>
     requires { high ≤ length records.now }
-    ensures { First (λ x. key x text.now ≡ sought.now) records.now low high result }
+    ensures { First (λ x. T.key x text.now ≡ sought.now) records.now low high result }
 {
     for i in low..high {
         if <T::By as Comparison>::same_key(records[i].key_in(text), sought) {

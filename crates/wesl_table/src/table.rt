@@ -83,14 +83,14 @@ impl<'a, T: Copy> Table<'a, T> {
 impl<'a, T: Keyed + Copy> Table<'a, T> {
     /// The index of the first record that has the key.
     pub fn find(&self, text: &[u8], sought: &[u8]) -> Option<usize>
-        ensures { First (λ x. key x text.now ≡ sought.now) (records self.now) 0 (length (records self.now)) result }
+        ensures { First (λ x. T.key x text.now ≡ sought.now) (records self.now) 0 (length (records self.now)) result }
     {
         self.find_within(0, self.len(), text, sought)
     }
 
     /// The index of the first record from `low` on and below `high` that has the key: one module's part of a table.
     pub fn find_within(&self, low: usize, high: usize, text: &[u8], sought: &[u8]) -> Option<usize>
-        ensures { First (λ x. key x text.now ≡ sought.now) (records self.now) low (min high (length (records self.now))) result }
+        ensures { First (λ x. T.key x text.now ≡ sought.now) (records self.now) low (min high (length (records self.now))) result }
     {
         first_with(
             counted(self.cells, self.count),

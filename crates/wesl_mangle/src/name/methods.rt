@@ -9,7 +9,7 @@ use crate::name::{LONGEST_MANGLED, MangledName};
 use wesl_path::{ModulePath, PlainName};
 
 fn named_by<M: Mangler>(mangler: &M, path: &ModulePath, item: &PlainName) -> MangledName
-    ensures { mangled_text result ≡ meaning mangler.now (path_value path.now) (name_text item.now) }
+    ensures { mangled_text result ≡ M.meaning mangler.now (path_value path.now) (name_text item.now) }
 {
     let mut bytes = [0u8; LONGEST_MANGLED];
     match mangler.mangle(path, item, &mut bytes) {
@@ -21,7 +21,7 @@ fn named_by<M: Mangler>(mangler: &M, path: &ModulePath, item: &PlainName) -> Man
 impl MangledName {
     /// What a Mangler calls an item of the module at a path. There is always room for it.
     pub fn of<M: Mangler>(mangler: &M, path: &ModulePath, item: &PlainName) -> MangledName
-        ensures { mangled_text result ≡ meaning mangler.now (path_value path.now) (name_text item.now) }
+        ensures { mangled_text result ≡ M.meaning mangler.now (path_value path.now) (name_text item.now) }
     {
         named_by(mangler, path, item)
     }

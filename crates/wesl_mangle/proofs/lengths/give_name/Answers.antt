@@ -13,7 +13,7 @@ returns c =
     let item = c.args.item.now in
     let out = c.args.out.now in
     let new = c.deliver.new.out in
-    let a = subst (λ x. Answered x out new c.deliver.result) c.write-name-end.ensures.name.holds c.deliver.ensures in
+    let a = subst (λ x. Answered x out new c.deliver.result) c.write_name-end.ensures.name.holds c.deliver.ensures in
     record {
       answer = a;
       back =

@@ -10,8 +10,8 @@ append-led-requires c =
     let r = c.requires.room in
     omega (arith, e)
 
-pub append-decimal-told-requires : goal.append-decimal-told-requires
-append-decimal-told-requires c =
+pub append_decimal-told-requires : goal.append_decimal-told-requires
+append_decimal-told-requires c =
     let e = escaped_some_length c.args.word.now (λ z. c.requires.some (c.requires.count ∙ z)) in
     let n = c.requires.count in
     let d = ap (λ k. length (decimal k)) n in
@@ -27,11 +27,11 @@ append-requires c =
     let d = ap (λ k. length (decimal k)) c.requires.count in
     let r = c.requires.room in
     let a = c.append-led.ensures.ends in
-    let b = c.append-decimal-told.ensures.ends in
+    let b = c.append_decimal-told.ensures.ends in
     omega (arith, e, d)
 
 pub returns : goal.returns
 returns c =
     let word = c.args.word.now in
     appended_as (escaped word) (ap (λ k. 95 ∷ (decimal k ++ word)) c.requires.count ∙ sym (escaped_some word (λ z. c.requires.some (c.requires.count ∙ z))))
-    (appended_more word _ _ (appended_more (decimal c.args.n) _ _ c.append-led.ensures c.append-decimal-told.ensures) c.append.ensures)
+    (appended_more word _ _ (appended_more (decimal c.args.n) _ _ c.append-led.ensures c.append_decimal-told.ensures) c.append.ensures)

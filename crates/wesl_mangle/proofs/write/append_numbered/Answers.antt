@@ -6,8 +6,8 @@ use Rattle.wesl_mangle.proofs.write.append_numbered.Goals as goal
 pub append-led-requires : goal.append-led-requires
 append-led-requires c = let l = numbered_length c.args.front.now c.args.n in let r = c.requires.room in omega (arith, l)
 
-pub append-decimal-told-requires : goal.append-decimal-told-requires
-append-decimal-told-requires c =
+pub append_decimal-told-requires : goal.append_decimal-told-requires
+append_decimal-told-requires c =
     let l = numbered_length c.args.front.now c.args.n in
     let r = c.requires.room in
     let a = c.append-led.ensures.ends in
@@ -18,7 +18,7 @@ append-requires c =
     let l = numbered_length c.args.front.now c.args.n in
     let r = c.requires.room in
     let a = c.append-led.ensures.ends in
-    let b = c.append-decimal-told.ensures.ends in
+    let b = c.append_decimal-told.ensures.ends in
     omega (arith, l)
 
 pub returns : goal.returns
@@ -26,4 +26,4 @@ returns c =
     let front = c.args.front.now in
     let d = decimal c.args.n in
     appended_as (front ++ (d ++ codes "_")) (append_assoc front d (codes "_"))
-    (appended_more (codes "_") _ _ (appended_more d _ _ c.append-led.ensures c.append-decimal-told.ensures) c.append.ensures)
+    (appended_more (codes "_") _ _ (appended_more d _ _ c.append-led.ensures c.append_decimal-told.ensures) c.append.ensures)

@@ -5,8 +5,8 @@ use Rattle.wesl_mangle.specs.Writes.{styled}
 use Rattle.wesl_mangle.proofs.WriteFacts.{appended_more, appended_as}
 use Rattle.wesl_mangle.proofs.write.append_word.Goals as goal
 
-pub append-escaped-told-requires : goal.append-escaped-told-requires
-append-escaped-told-requires c =
+pub append_escaped-told-requires : goal.append_escaped-told-requires
+append_escaped-told-requires c =
     let word = c.args.word.now in
     let e = ap (λ s. length (styled s word)) c.in-Escaped.is ∙ length-append (escaped word) (95 ∷ []) in
     let r = c.requires.room in
@@ -17,10 +17,10 @@ append-requires c =
     let word = c.args.word.now in
     let e = ap (λ s. length (styled s word)) c.in-Escaped.is ∙ length-append (escaped word) (95 ∷ []) in
     let r = c.requires.room in
-    let a = c.append-escaped-told.ensures.ends in
+    let a = c.append_escaped-told.ensures.ends in
     omega (arith, e)
 
 pub returns-in-Escaped : goal.returns-in-Escaped
 returns-in-Escaped c =
     let word = c.args.word.now in
-    appended_as (styled c.args.style word) (sym (ap (λ s. styled s word) c.in-Escaped.is)) (appended_more (95 ∷ []) _ _ c.append-escaped-told.ensures c.append.ensures)
+    appended_as (styled c.args.style word) (sym (ap (λ s. styled s word) c.in-Escaped.is)) (appended_more (95 ∷ []) _ _ c.append_escaped-told.ensures c.append.ensures)

@@ -7,15 +7,15 @@ use Rattle.wesl_mangle.proofs.WriteFacts.{words_written, words_length}
 use Rattle.wesl_mangle.proofs.write.append_words.Goals as goal
 use Rattle.wesl_mangle.proofs.write.append_words.Goals.{then-i-stop, else-i-stop}
 
-pub append-word-end-requires : goal.append-word-end-requires
-append-word-end-requires c =
+pub append_word-end-requires : goal.append_word-end-requires
+append_word-end-requires c =
     let text = c.args.text.now in
     let i = c.loop-i.i in
-    let stop = c.word-end-stop.result in
-    let v = c.word-end-stop.ensures.value in
+    let stop = c.word_end-stop.result in
+    let v = c.word_end-stop.ensures.value in
     let here = ap length (word_here text i stop v) in
     let more = words_length (styled c.args.style) _ _ _ (words_more text i stop v (omega arith)) in
-    let b = c.word-end-stop.ensures.bound (omega arith) in
+    let b = c.word_end-stop.ensures.bound (omega arith) in
     let s = c.requires.short in
     let r = c.requires.room in
     let inv = c.loop-i.invariant.0 in
@@ -26,14 +26,14 @@ loop-i-preserved c =
     let text = c.args.text.now in
     let st = styled c.args.style in
     let i = c.loop-i.i in
-    let stop = c.word-end-stop.result in
-    let v = c.word-end-stop.ensures.value in
+    let stop = c.word_end-stop.result in
+    let v = c.word_end-stop.ensures.value in
     let inv = c.loop-i.invariant in
     elim c.if-i-stop.branch [
       | then-i-stop w ↦ (
           let all = words_more text i stop v w.if-i-stop.true in
           let more = words_length st _ _ _ all in
-          let a = w.append-word-end.ensures in
+          let a = w.append_word-end.ensures in
           let ends = a.ends in
           let held = words_written st _ _ _ _ _ _ _ _ all inv.1 a in
           let e = w.end-is in

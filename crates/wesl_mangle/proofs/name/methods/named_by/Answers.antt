@@ -26,9 +26,9 @@ unreachable-requires g c =
     let named = g.met.M.Mangler.named c.args.mangler.now (path_value path) (name_text item) (path_from_test (path_text path) path.valid).0 item.ok in
     room-enough what (replicate 1024 0) c.mangle.new.out _ c.in-Err.ensures named.short
 
-pub invariant-of-result : goal.invariant-of-result
+pub invariant_of-result : goal.invariant_of-result
 unfolding is_word
-invariant-of-result g c =
+invariant_of-result g c =
     let path = c.args.path.now in
     let item = c.args.item.now in
     let what = g.M.Mangler.meaning c.args.mangler.now (path_value path) (name_text item) in
@@ -37,7 +37,7 @@ invariant-of-result g c =
     let e = delivered what _ c.mangle.new.out c.in-Ok.len a.0 a.2 in
     let s = named.short in
     let l = a.0 in
-    (omega arith, (subst (λ x. is_word x ≡ true) (sym e) (and_from (starts_well_text what) (word_bytes what) named.starts named.bytes), tt))
+    record { within = omega arith; word = subst (λ x. is_word x ≡ true) (sym e) (and_from (starts_well_text what) (word_bytes what) named.starts named.bytes) }
 
 pub returns : goal.returns
 returns g c = let a = c.in-Ok.ensures in delivered _ _ c.mangle.new.out c.in-Ok.len a.0 a.2

@@ -16,7 +16,7 @@ pub fn find_source<'r, R: Resolver>(
     path: &ModulePath,
     cell: &mut FaultCell,
 ) -> Result<&'r [u8], ResolveFault>
-    ensures { Sourced (texts resolver.now) (path_text path.now) cell.old cell.new result }
+    ensures { Sourced (R.texts resolver.now) (path_text path.now) cell.old cell.new result }
 {
     match resolver.resolve_source(path) {
         Some(text) => Ok(text),

@@ -9,15 +9,15 @@ loop-end-init c = underway_first c.args.text.now c.args.at c.requires
 pub returns-in-Some : goal.returns-in-Some
 returns-in-Some c =
     let text = c.args.text.now in
-    let line = line_at text c.loop-end.end c.line-end-next.result (omega arith) c.line-end-next.ensures.value in
+    let line = line_at text c.loop-end.end c.line_end-next.result (omega arith) c.line_end-next.ensures.value in
     let p = c.in-Some.ensures in
-    body_ends text c.args.at c.loop-end.end c.loop-end.invariant c.line-end-next.result line (record { path = c.in-Some.field-0.now; valid = p.0; written = p.1 })
+    body_ends text c.args.at c.loop-end.end c.loop-end.invariant c.line_end-next.result line (record { path = c.in-Some.field-0.now; valid = p.0; written = p.1 })
 
 pub loop-end-preserved : goal.loop-end-preserved
 loop-end-preserved c =
     let text = c.args.text.now in
-    let line = line_at text c.loop-end.end c.line-end-next.result (omega arith) c.line-end-next.ensures.value in
-    underway_more text c.args.at c.loop-end.end c.loop-end.invariant c.line-end-next.result line c.in-None.ensures
+    let line = line_at text c.loop-end.end c.line_end-next.result (omega arith) c.line_end-next.ensures.value in
+    underway_more text c.args.at c.loop-end.end c.loop-end.invariant c.line_end-next.result line c.in-None.ensures
 
 pub returns : goal.returns
 returns c = body_all c.args.text.now c.args.at c.loop-end.end c.loop-end.invariant (omega arith)

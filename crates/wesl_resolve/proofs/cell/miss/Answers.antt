@@ -10,7 +10,7 @@ use Rattle.wesl_resolve.proofs.cell.miss.Goals as goal
 pub put-requires : goal.put-requires
 put-requires c =
     let l : length c.args.cell.now.bytes ≡ 2558 = search rules in
-    let s = own_short c.as-bytes-bytes.result.now c.as-bytes-bytes.ensures.valid in
+    let s = own_short c.as_bytes-bytes.result.now c.as_bytes-bytes.ensures.valid in
     omega (arith, l, s)
 
 pub returns : goal.returns
@@ -18,5 +18,5 @@ returns c =
     let l : length c.args.cell.now.bytes ≡ 2558 = search rules in
     let was = c.args.cell.now in
     let new : FaultCell = record { bytes = c.put.new.out } in
-    let b = c.as-bytes-bytes.result.now in
-    subst (λ (p : List ℕ). Missed p was new (Missing None (Some (path_place b)))) c.as-bytes-bytes.ensures.value (missed b was new (omega (arith, l)) c.put.ensures)
+    let b = c.as_bytes-bytes.result.now in
+    subst (λ (p : List ℕ). Missed p was new (Missing None (Some (path_place b)))) c.as_bytes-bytes.ensures.value (missed b was new (omega (arith, l)) c.put.ensures)

@@ -19,6 +19,7 @@ use failure::Failure;
 use modules::write_modules;
 use names::write_names;
 use std::io::{BufWriter, Read, Write};
+use std::process::ExitCode;
 use std::{fs, io};
 
 const USAGE: &str = "\
@@ -36,16 +37,18 @@ usage:
   wesl help             show this
 ";
 
-fn main(rt: HostRuntime) -> Result<(), Failure> {
-    let result = run(&rt);
-    if let Err(failure) = &result {
-        // Where standard error cannot be written either, the status still tells.
-        let _ = eprintln!(rt; "wesl: {failure}");
-        if let Failure::UnknownWord(_) = failure {
-            let _ = eprint!(rt; "{USAGE}");
+fn main(rt: HostRuntime) -> ExitCode {
+    match run(&rt) {
+        Ok(()) => ExitCode::SUCCESS,
+        Err(failure) => {
+            // Where standard error cannot be written either, the status still tells.
+            let _ = eprintln!(rt; "wesl: {failure}");
+            if let Failure::UnknownWord(_) = failure {
+                let _ = eprint!(rt; "{USAGE}");
+            }
+            ExitCode::FAILURE
         }
     }
-    result
 }
 
 fn run(rt: &HostRuntime) -> Result<(), Failure> {

@@ -48,7 +48,7 @@ impl Declaration {
 
     /// The name that a Mangler gives it.
     pub fn named<M: Mangler>(&self, mangler: &M) -> MangledName
-        ensures { mangled_text result ≡ meaning mangler.now (path_value self.now.path) (name_text self.now.item) }
+        ensures { mangled_text result ≡ M.meaning mangler.now (path_value self.now.path) (name_text self.now.item) }
     {
         MangledName::of(mangler, &self.path, &self.item)
     }

@@ -5,7 +5,7 @@ use Rattle.std.specs.List.{flat_map, AllByRecursion as All}
 use Rattle.std.specs.Str.{bytes_eq}
 use Rattle.std.proofs.ByRecursion.{All-append, All-weaker}
 use Rattle.std.proofs.lemmas.Bool.{true≢false, and_parts, and_from}
-use Rattle.wesl_path.specs.Name.{digit, letter, word_byte, word_bytes, starts_well_text, reserved, plain, Plain}
+use Rattle.wesl_path.specs.Name.{digit, letter, word_byte, word_bytes, starts_well_text, Plain}
 use Rattle.wesl_path.proofs.WordFacts.{plain_starts, plain_short, plain_word_bytes}
 use Rattle.wesl_path.proofs.PathFacts.{plain_is_free}
 use Rattle.wesl_path.specs.Path.{Origin, absolute, relative, packaged, Path, PlainOrigin, Sound, origin_words, path_words}

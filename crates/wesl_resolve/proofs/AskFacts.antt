@@ -1,11 +1,10 @@
 -- What two Resolvers answered, and the cell after a path was not found.
-use Rattle.std.proofs.Common.{◌≡◌, ℕ, ◌+◌, ◌≤◌, Bool, List, [], ◌++◌, length, take, drop, Some, None, Decides, Option, sym, refl, ap, ◌∙◌, arith}
+use Rattle.std.proofs.Common.{◌≡◌, ℕ, ◌+◌, ◌≤◌, Bool, List, [], ◌++◌, length, take, drop, Some, None, Decides, Option, sym, refl, ap, ◌∙◌}
 use Rattle.std.specs.Str.{bytes_eq}
 use Rattle.std.proofs.lemmas.Slice.Eq.{bytes_eq-Decides}
 use Rattle.std.proofs.lemmas.List.{take_at, drop_at, length-take-le}
 use Rattle.wesl_table.specs.Places.{part}
-use Rattle.wesl_resolve.specs.Faults.{contents}
-use Rattle.wesl_resolve.specs.Cells.{written_at, path_place, not_found, Missed}
+use Rattle.wesl_resolve.specs.Cells.{written_at, path_place, Missed}
 use Rattle.wesl_resolve.specs.declared.cell.FaultCell.{FaultCell}
 use Rattle.wesl_resolve.specs.declared.fault.ResolveFault.TheVariants.{Missing}
 

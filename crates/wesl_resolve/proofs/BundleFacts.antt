@@ -1,12 +1,11 @@
 -- Lines that lead a module, and the modules that they lead.
-use Rattle.std.proofs.Common.{◌≡◌, ℕ, ◌+◌, ◌-◌, ◌<◌, ◌≤◌, Bool, true, false, cond, List, [], ◌∷◌, ◌++◌, length, take, drop, codes, Decides, sym, refl, ap, ◌∙◌, subst, inl, inr, ⊎_elim, arith, take-add}
+use Rattle.std.proofs.Common.{◌≡◌, ℕ, ◌+◌, ◌-◌, ◌<◌, ◌≤◌, false, List, [], ◌∷◌, ◌++◌, length, take, drop, codes, Decides, sym, refl, ap, ◌∙◌, subst, inl, inr, ⊎_elim, arith, take-add}
 use Rattle.std.specs.List.{between}
-use Rattle.std.specs.Str.{bytes_eq}
 use Rattle.std.proofs.lemmas.Slice.Eq.{bytes_eq-Decides}
 use Rattle.std.proofs.lemmas.List.{take_at, length_push, append_cancel_left, append_cancel_right, append-nil, append_assoc, drop-drop, drop_all, take_all}
 use Rattle.std.proofs.lemmas.List.Edits.{between_none}
 use Rattle.std.proofs.lemmas.Bool.{and_parts, and_from, cases_Bool, cases_lt}
-use Rattle.wesl_path.specs.Path.{IsPath, is_path_text}
+use Rattle.wesl_path.specs.Path.{IsPath}
 use Rattle.wesl_path.proofs.PathFacts.{is_path_decides}
 use Rattle.wesl_resolve.specs.Sources.{Source}
 use Rattle.wesl_resolve.specs.Lines.{lines, first_line}

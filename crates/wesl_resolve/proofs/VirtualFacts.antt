@@ -1,5 +1,5 @@
 -- A table of modules: what a lookup by a path finds, and what a further module leaves.
-use Rattle.std.proofs.Common.{◌≡◌, ℕ, ◌<◌, ◌≤◌, min, true, List, [], ◌∷◌, ◌++◌, map, length, set, is_some, Some, None, Ok, Err, Option, Result, sym, refl, ap, ◌∙◌, subst, inl, inr, arith}
+use Rattle.std.proofs.Common.{◌≡◌, ℕ, ◌≤◌, true, List, length, is_some, Some, None, Ok, Err, Option, Result, sym, ap, ◌∙◌, subst}
 use Rattle.std.specs.List.{HoldsAt}
 use Rattle.std.proofs.lemmas.List.{length-map}
 use Rattle.wesl_path.specs.Texts.{path_text}
@@ -8,8 +8,8 @@ use Rattle.wesl_table.specs.Tables.{records, room, Pushed}
 use Rattle.wesl_table.specs.declared.fault.TableFault.{TableFault}
 use Rattle.wesl_table.specs.declared.fault.TableFault.TheVariants.{Full}
 use Rattle.wesl_table.specs.declared.table.Table.{Table}
-use Rattle.wesl_resolve.specs.Sources.{text_at, with_source, changed}
-use Rattle.wesl_resolve.specs.Virtual.{source_of, sources_of, most, Added, Remaps}
+use Rattle.wesl_resolve.specs.Sources.{text_at}
+use Rattle.wesl_resolve.specs.Virtual.{source_of, sources_of, Added, Remaps}
 use Rattle.wesl_resolve.specs.declared.fault.ResolveFault.{ResolveFault}
 use Rattle.wesl_resolve.specs.declared.fault.ResolveFault.TheVariants.{Missing, NoRoom, Listing}
 use Rattle.wesl_resolve.specs.declared.virtual_resolver.VirtualModule.{VirtualModule}

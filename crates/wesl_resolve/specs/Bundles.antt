@@ -3,7 +3,7 @@ use Rattle.std.specs.Prelude.{◌≡◌, ℕ, ◌+◌, ◌-◌, ◌<◌, ◌≤�
 use Rattle.std.specs.List.{between}
 use Rattle.std.specs.Str.{bytes_eq}
 use Rattle.wesl_path.specs.Path.{IsPath, is_path_text}
-use Rattle.wesl_resolve.specs.Sources.{Texts, Source, text_at}
+use Rattle.wesl_resolve.specs.Sources.{Source}
 use Rattle.wesl_resolve.specs.Lines.{lines, first_line}
 use Rattle.wesl_resolve.specs.declared.bundle.Bundle.{Bundle}
 use Rattle.wesl_resolve.specs.declared.bundle.BundleModule.{BundleModule}

@@ -1,5 +1,5 @@
 -- What a table holds, and what its calls leave.
-use Rattle.std.specs.Prelude.{◌≡◌, ℕ, ◌+◌, ◌<◌, ◌≤◌, List, [], ◌∷◌, ◌++◌, length, take, Ok, Err, Result}
+use Rattle.std.specs.Prelude.{◌≡◌, ℕ, ◌<◌, ◌≤◌, List, [], ◌∷◌, ◌++◌, length, take, Ok, Err, Result}
 use Rattle.wesl_table.specs.declared.fault.TableFault.{TableFault}
 use Rattle.wesl_table.specs.declared.fault.TableFault.TheVariants.{Full}
 use Rattle.wesl_table.specs.declared.table.Table.{Table}

@@ -1,7 +1,6 @@
-use Rattle.std.proofs.Common.{◌≡◌, ℕ, ◌≤◌, List, length, Some, None, sym, ap, ◌∙◌, subst, arith, rules}
-use Rattle.wesl_path.specs.Texts.{path_text}
+use Rattle.std.proofs.Common.{◌≡◌, ℕ, List, length, Some, None, subst, arith, rules}
 use Rattle.wesl_path.proofs.PassedFacts.{own_short}
-use Rattle.wesl_resolve.specs.Cells.{written_at, path_place, Missed}
+use Rattle.wesl_resolve.specs.Cells.{path_place, Missed}
 use Rattle.wesl_resolve.specs.declared.cell.FaultCell.{FaultCell}
 use Rattle.wesl_resolve.specs.declared.fault.ResolveFault.TheVariants.{Missing}
 use Rattle.wesl_resolve.proofs.AskFacts.{missed}

@@ -1,11 +1,11 @@
-use Rattle.std.proofs.Common.{◌≡◌, ◌<◌, map, length, Some, None, refl, ap, ◌∙◌, inl, inr, arith}
+use Rattle.std.proofs.Common.{map, Some, None, refl, ap, ◌∙◌, inl, inr, arith}
 use Rattle.std.proofs.lemmas.Result.{err_from_is_err_and}
 use Rattle.wesl_path.specs.Texts.{path_text}
-use Rattle.wesl_table.specs.Tables.{records, room}
-use Rattle.wesl_resolve.specs.Virtual.{source_of, most}
+use Rattle.wesl_table.specs.Tables.{records}
+use Rattle.wesl_resolve.specs.Virtual.{source_of}
 use Rattle.wesl_resolve.specs.declared.virtual_resolver.VirtualModule.{VirtualModule}
 use Rattle.wesl_resolve.proofs.SourceFacts.{replaced, appended}
-use Rattle.wesl_resolve.proofs.VirtualFacts.{Looked, looked_for, none_held, some_held, sources_long, push_refused}
+use Rattle.wesl_resolve.proofs.VirtualFacts.{looked_for, none_held, some_held, sources_long, push_refused}
 use Rattle.wesl_resolve.proofs.virtual_resolver.put_module.Goals as goal
 
 pub returns-then-len-ge-MOST_MODULES : goal.returns-then-len-ge-MOST_MODULES

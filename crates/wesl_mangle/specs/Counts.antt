@@ -1,7 +1,7 @@
 -- The mangling by lengths as words, and the way back from it.
 use Rattle.std.proofs.Common.{arith, sym, ap, ◌∙◌}
 use Rattle.std.specs.Prelude.{◌≡◌, ℕ, ◌+◌, ◌<◌, ◌≤◌, List, [], ◌∷◌, ◌++◌, length, decimal, refl}
-use Rattle.std.specs.List.{flat_map, AllByRecursion as All}
+use Rattle.std.specs.List.{flat_map, AllByRecursion}
 use Rattle.std.proofs.lemmas.List.{append_assoc, append-nil}
 use Rattle.std.proofs.ByRecursion.{All-append}
 use Rattle.std.proofs.lemmas.Bool.{cond-false}
@@ -20,12 +20,12 @@ pub lengths_as_words : (p : Path) (i : List ℕ) → by_lengths p i ≡ counted_
 unfolding by_lengths
 lengths_as_words p i = refl
 
-parts_plain : (o : Origin) → PlainOrigin o → All Plain (package_parts o)
+parts_plain : (o : Origin) → PlainOrigin o → AllByRecursion Plain (package_parts o)
 parts_plain absolute h = tt
 parts_plain (relative n) h = tt
 parts_plain (packaged part more) h = h
 
-pub words_plain : (p : Path) → Sound p → All Plain (package_parts p.origin ++ p.components)
+pub words_plain : (p : Path) → Sound p → AllByRecursion Plain (package_parts p.origin ++ p.components)
 words_plain p h = All-append Plain (package_parts p.origin) p.components (parts_plain p.origin h.origin) h.components
 
 -- Reading words back.
@@ -46,7 +46,7 @@ reads_counted w rest h =
     ∙ fills w [] rest
 
 -- a digit ends the word before it
-digit_ends : (w ds rest : List ℕ) → All Digit ds → 0 < length ds → uncounted (inside w 0) (ds ++ rest) ≡ w ∷ uncounted (counting 0) (ds ++ rest)
+digit_ends : (w ds rest : List ℕ) → AllByRecursion Digit ds → 0 < length ds → uncounted (inside w 0) (ds ++ rest) ≡ w ∷ uncounted (counting 0) (ds ++ rest)
 digit_ends w [] rest h k = absurd (omega arith)
 digit_ends w (d ∷ ds) rest h k = ap (λ ws. w ∷ ws) (sym (counting_digits 0 d (ds ++ rest) h.0))
 
@@ -57,11 +57,11 @@ count_ends w u rest h =
     rw (append_assoc (decimal (length u)) (95 ∷ u) rest)
     (digit_ends w (decimal (length u)) (95 ∷ (u ++ rest)) (decimal_digits (length u) c) (decimal_nonempty (length u) c))
 
-words_end : (w : List ℕ) (ws : List (List ℕ)) (i : List ℕ) → All Word ws → Word i → uncounted (inside w 0) (flat_map counted ws ++ counted i) ≡ w ∷ uncounted (counting 0) (flat_map counted ws ++ counted i)
+words_end : (w : List ℕ) (ws : List (List ℕ)) (i : List ℕ) → AllByRecursion Word ws → Word i → uncounted (inside w 0) (flat_map counted ws ++ counted i) ≡ w ∷ uncounted (counting 0) (flat_map counted ws ++ counted i)
 words_end w [] i h k = rw (sym (append-nil (counted i))) (count_ends w i [] k)
 words_end w (v ∷ ws) i h k = rw (append_assoc (counted v) (flat_map counted ws) (counted i)) (count_ends w v (flat_map counted ws ++ counted i) h.0)
 
-reads_words : (ws : List (List ℕ)) (i : List ℕ) → All Word ws → Word i → uncounted (counting 0) (flat_map counted ws ++ counted i) ≡ ws ++ i ∷ []
+reads_words : (ws : List (List ℕ)) (i : List ℕ) → AllByRecursion Word ws → Word i → uncounted (counting 0) (flat_map counted ws ++ counted i) ≡ ws ++ i ∷ []
 reads_words [] i h k = ap (uncounted (counting 0)) (sym (append-nil (counted i))) ∙ reads_counted i [] k
 reads_words (w ∷ ws) i h k =
     ap (uncounted (counting 0)) (append_assoc (counted w) (flat_map counted ws) (counted i))
@@ -77,7 +77,7 @@ up_digits n b bs h = cond-false _ _ _ (digit_no_underscore b h)
 parts_digits : TakesDigits counted_parts
 parts_digits n b bs h = cond-false _ _ _ (digit_no_underscore b h)
 
-origin_back : (o : Origin) (cs : List (List ℕ)) (i : List ℕ) → origin_count o ≤ 256 → All Word (package_parts o ++ cs) → Word i →
+origin_back : (o : Origin) (cs : List (List ℕ)) (i : List ℕ) → origin_count o ≤ 256 → AllByRecursion Word (package_parts o ++ cs) → Word i →
     from_lengths (counted_origin o ++ (flat_map counted (package_parts o ++ cs) ++ counted i)) ≡ record { path = record { origin = o; components = cs }; name = i }
 unfolding from_lengths
 origin_back absolute cs i n h k = ap (ended_item absolute []) (reads_words cs i h k) ∙ ends_item absolute [] cs i

@@ -1,7 +1,7 @@
 -- Digits and decimals, read from the left.
 use Rattle.std.proofs.Common.{arith, ap, ◌∙◌, rules}
 use Rattle.std.specs.Prelude.{◌≡◌, ℕ, ◌^◌, ◌<◌, ◌≤◌, true, false, List, [], ◌∷◌, ◌++◌, length, decimal, ◌==◌, refl}
-use Rattle.std.specs.List.{AllByRecursion as All}
+use Rattle.std.specs.List.{AllByRecursion}
 use Rattle.std.proofs.lemmas.List.{length-append}
 use Rattle.std.proofs.lemmas.Bool.{and_from, or_left, or_right}
 use Rattle.std.proofs.lemmas.Str.Parse.{IsNumeralModel, numerals_by_fold}
@@ -20,11 +20,11 @@ unfolding digit
 digit_no_underscore b h = grind (arith, nat_tests)
 
 -- what `decimal` writes is digits, and `numbered` is the number that digits write
-numerals : IsNumeralModel (All Digit) (numbered 0)
+numerals : IsNumeralModel (AllByRecursion Digit) (numbered 0)
 unfolding digit
 numerals = numerals_by_fold _ (search rules) numbered (search rules)
 
-pub decimal_digits : (n : ℕ) → n < 2 ^ 64 → All Digit (decimal n)
+pub decimal_digits : (n : ℕ) → n < 2 ^ 64 → AllByRecursion Digit (decimal n)
 decimal_digits = digits_decimal numerals
 
 pub numbered_decimal : (n : ℕ) → n < 2 ^ 64 → numbered 0 (decimal n) ≡ n
@@ -34,14 +34,14 @@ numbered_decimal = digits_value-decimal numerals
 abbrev pub TakesDigits : {A : Type 0} → (ℕ → List ℕ → A) → Type 0
 TakesDigits f = (n b : ℕ) (bs : List ℕ) → Digit b → f n (b ∷ bs) ≡ f (shifted n b) bs
 
-takes_all : {A : Type 0} (f : ℕ → List ℕ → A) → TakesDigits f → (n : ℕ) (ds bs : List ℕ) → All Digit ds → f n (ds ++ bs) ≡ f (numbered n ds) bs
+takes_all : {A : Type 0} (f : ℕ → List ℕ → A) → TakesDigits f → (n : ℕ) (ds bs : List ℕ) → AllByRecursion Digit ds → f n (ds ++ bs) ≡ f (numbered n ds) bs
 takes_all f takes n [] bs h = refl
 takes_all f takes n (d ∷ ds) bs h = takes n d (ds ++ bs) h.0 ∙ takes_all f takes (shifted n d) ds bs h.1
 
 pub takes_decimal : {A : Type 0} (f : ℕ → List ℕ → A) → TakesDigits f → (n : ℕ) (bs : List ℕ) → n < 2 ^ 64 → f 0 (decimal n ++ bs) ≡ f n bs
 takes_decimal f takes n bs h = takes_all f takes 0 (decimal n) bs (decimal_digits n h) ∙ ap (λ m. f m bs) (numbered_decimal n h)
 
-digits_bytes : (ds : List ℕ) → All Digit ds → word_bytes ds ≡ true
+digits_bytes : (ds : List ℕ) → AllByRecursion Digit ds → word_bytes ds ≡ true
 unfolding word_byte
 digits_bytes [] h = refl
 digits_bytes (d ∷ ds) h = and_from _ _ (or_right (letter d) _ (or_left _ _ h.0)) (digits_bytes ds h.1)

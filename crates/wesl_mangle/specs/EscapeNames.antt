@@ -1,7 +1,7 @@
 -- An escaped name is an identifier of the output.
 use Rattle.std.proofs.Common.{arith, ap, ◌∙◌, inl, inr, ⊎_elim}
 use Rattle.std.specs.Prelude.{◌≡◌, ℕ, zero, suc, ◌+◌, ◌≤◌, true, ◌⊎◌, List, [], ◌∷◌, ◌++◌, length, codes, decimal, ◌==◌, refl}
-use Rattle.std.specs.List.{flat_map, AllByRecursion as All}
+use Rattle.std.specs.List.{flat_map, AllByRecursion}
 use Rattle.std.proofs.lemmas.List.{length-append}
 use Rattle.std.proofs.lemmas.Bool.{cases_Bool, cond-true, cond-false}
 use Rattle.std.proofs.lemmas.Fmt.{length-decimal-le}
@@ -61,7 +61,7 @@ lead_fits (packaged part (next ∷ more)) c =
 starts_ended : (w x y : List ℕ) → Word w → starts_well_text ((ended w ++ x) ++ y) ≡ true
 starts_ended w x y h = starts_well_append (ended w ++ x) y (starts_well_append (ended w) x (starts_well_append (escaped w) (95 ∷ []) (escaped_starts w h)))
 
-starts_named : (o : Origin) (cs : List (List ℕ)) (i : List ℕ) → All Word (origin_words o ++ cs) → starts_well_text (package_lead o ++ (flat_map ended (origin_words o ++ cs) ++ escaped i)) ≡ true
+starts_named : (o : Origin) (cs : List (List ℕ)) (i : List ℕ) → AllByRecursion Word (origin_words o ++ cs) → starts_well_text (package_lead o ++ (flat_map ended (origin_words o ++ cs) ++ escaped i)) ≡ true
 unfolding digit
 starts_named absolute cs i h = starts_ended (codes "package") _ (escaped i) h.0
 starts_named (relative zero) cs i h = starts_ended (codes "self") _ (escaped i) h.0

@@ -1,7 +1,7 @@
 -- The escape mangling as words, and the way back from it.
 use Rattle.std.proofs.Common.{arith, sym, ap, ◌∙◌, ⊎_elim, add-zero, zero-add, one-add}
 use Rattle.std.specs.Prelude.{◌≡◌, ℕ, zero, suc, ◌+◌, ◌^◌, ◌<◌, ◌≤◌, true, false, cond, List, [], ◌∷◌, ◌++◌, map, length, replicate, codes, decimal, ◌==◌, nat_eq, refl}
-use Rattle.std.specs.List.{flat_map, AllByRecursion as All}
+use Rattle.std.specs.List.{flat_map, AllByRecursion}
 use Rattle.std.proofs.lemmas.List.{append_assoc, append-nil, map-append}
 use Rattle.std.proofs.lemmas.List.Sums.{sum_by-cons, count_by-le-length}
 use Rattle.std.proofs.lemmas.Bool.{true≢false, not-true, cases_Bool, cond-true, cond-false, eqb-true}
@@ -152,7 +152,7 @@ word_read w t ws k h =
     (cases_Bool (underscores w == 0))
 
 -- all words, with the item's name at the end
-words_read : (ws : List (List ℕ)) (i : List ℕ) → All Word ws → Word i → unescaped fresh (flat_map ended ws ++ escaped i) ≡ ws ++ i ∷ []
+words_read : (ws : List (List ℕ)) (i : List ℕ) → AllByRecursion Word ws → Word i → unescaped fresh (flat_map ended ws ++ escaped i) ≡ ws ++ i ∷ []
 words_read [] i h k = ap (unescaped fresh) (sym (append-nil (escaped i))) ∙ word_read i [] [] k (λ v. refl)
 words_read (w ∷ ws) i h k =
     let rest = flat_map ended ws ++ escaped i in
@@ -160,7 +160,7 @@ words_read (w ∷ ws) i h k =
     ∙ word_read w (95 ∷ rest) (unescaped fresh rest) h.0 (λ v. refl)
     ∙ ap (λ r. w ∷ r) (words_read ws i h.1 k)
 
-no_underscore_in_digits : (ds : List ℕ) → All Digit ds → underscores ds ≡ 0
+no_underscore_in_digits : (ds : List ℕ) → AllByRecursion Digit ds → underscores ds ≡ 0
 unfolding underscores
 no_underscore_in_digits [] h = refl
 no_underscore_in_digits (d ∷ ds) h = underscores_letter d ds (digit_no_underscore d h.0) ∙ no_underscore_in_digits ds h.1
@@ -177,7 +177,7 @@ supers_counted : (m n : ℕ) (ws : List (List ℕ)) → after_super m (replicate
 supers_counted m zero ws = rw (add-zero m) refl
 supers_counted m (suc n) ws = supers_counted (suc m) n ws ∙ ap (λ k. after_super k ws) (omega arith)
 
-supers_end : (m : ℕ) (cs : List (List ℕ)) (i : List ℕ) → All Plain cs → Plain i → after_super m (cs ++ i ∷ []) ≡ ended_item (relative m) [] (cs ++ i ∷ [])
+supers_end : (m : ℕ) (cs : List (List ℕ)) (i : List ℕ) → AllByRecursion Plain cs → Plain i → after_super m (cs ++ i ∷ []) ≡ ended_item (relative m) [] (cs ++ i ∷ [])
 supers_end m [] i h k = cond-false _ _ _ (plain_parts i k).no_super
 supers_end m (c ∷ cs) i h k = cond-false _ _ _ (plain_parts c h.0).no_super
 

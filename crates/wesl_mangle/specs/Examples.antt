@@ -1,7 +1,7 @@
 -- Worked examples of joining and of both manglings.
 use Rattle.std.specs.Prelude.{◌≡◌, List, [], ◌∷◌, codes}
 use Prim.Native.String.{String}
-use Rattle.std.specs.List.{AllByRecursion as All}
+use Rattle.std.specs.List.{AllByRecursion}
 use Rattle.wesl_path.specs.Path.{Path, path_of, join_path, shown}
 use Rattle.wesl_mangle.specs.Escape.{escape}
 use Rattle.wesl_mangle.specs.Counted.{by_lengths}
@@ -33,4 +33,4 @@ cases =
     []
 
 abbrev pub Worked : Type 0
-Worked = All Holds cases
+Worked = AllByRecursion Holds cases

@@ -1,7 +1,7 @@
 -- How long the words of a path are, and how many its origin has: both are bounded by the path as written.
 use Rattle.std.proofs.Common.{arith}
 use Rattle.std.specs.Prelude.{◌≡◌, ℕ, zero, suc, ◌+◌, ◌*◌, ◌≤◌, List, [], ◌∷◌, ◌++◌, length, replicate, codes}
-use Rattle.std.specs.List.{flat_map, AllByRecursion as All}
+use Rattle.std.specs.List.{flat_map, AllByRecursion}
 use Rattle.std.proofs.lemmas.List.{length-append, length-replicate}
 use Rattle.wesl_path.specs.Path.{Origin, absolute, relative, packaged, Path, Sound, led, shown_origin, shown, origin_words, path_words}
 use Rattle.wesl_mangle.specs.Texts.{Word, word_some}
@@ -35,7 +35,7 @@ sizes_path p h =
     rw (sizes_append (origin_words p.origin) p.components) (omega arith)
 
 -- words stay within three times their size when each gets at most four bytes more
-pub length_joined : (f : List ℕ → List ℕ) → ((w : List ℕ) → Word w → length (f w) ≤ length w + 4) → (ws : List (List ℕ)) → All Word ws → length (flat_map f ws) ≤ 3 * sizes ws
+pub length_joined : (f : List ℕ → List ℕ) → ((w : List ℕ) → Word w → length (f w) ≤ length w + 4) → (ws : List (List ℕ)) → AllByRecursion Word ws → length (flat_map f ws) ≤ 3 * sizes ws
 length_joined f each [] h = omega arith
 length_joined f each (w ∷ ws) h =
     simp length-append

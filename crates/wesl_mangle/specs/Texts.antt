@@ -1,7 +1,7 @@
 -- Plain names, the words of paths, and their bytes.
 use Rattle.std.proofs.Common.{arith, sym}
 use Rattle.std.specs.Prelude.{◌≡◌, ℕ, zero, suc, ◌^◌, ◌<◌, ◌≤◌, true, false, List, [], ◌∷◌, ◌++◌, length, replicate, codes, refl}
-use Rattle.std.specs.List.{flat_map, AllByRecursion as All}
+use Rattle.std.specs.List.{flat_map, AllByRecursion}
 use Rattle.std.specs.Str.{bytes_eq}
 use Rattle.std.proofs.ByRecursion.{All-append, All-weaker}
 use Rattle.std.proofs.lemmas.Bool.{true≢false, and_parts, and_from}
@@ -38,25 +38,25 @@ plain_parts w h =
 pub word_from_plain : (w : List ℕ) → Plain w → Word w
 word_from_plain w h = (plain_parts w h).word
 
-pub words_from_plain : (ws : List (List ℕ)) → All Plain ws → All Word ws
+pub words_from_plain : (ws : List (List ℕ)) → AllByRecursion Plain ws → AllByRecursion Word ws
 words_from_plain ws h = All-weaker Plain Word word_from_plain ws h
 
 super_word : Word (codes "super")
 unfolding word_byte letter digit
 super_word = record { starts = refl; short = omega arith; bytes = refl }
 
-supers_words : (n : ℕ) → All Word (replicate n (codes "super"))
+supers_words : (n : ℕ) → AllByRecursion Word (replicate n (codes "super"))
 supers_words zero = tt
 supers_words (suc n) = (super_word, supers_words n)
 
-origin_words_words : (o : Origin) → PlainOrigin o → All Word (origin_words o)
+origin_words_words : (o : Origin) → PlainOrigin o → AllByRecursion Word (origin_words o)
 unfolding word_byte letter digit
 origin_words_words absolute h = (record { starts = refl; short = omega arith; bytes = refl }, tt)
 origin_words_words (relative zero) h = (record { starts = refl; short = omega arith; bytes = refl }, tt)
 origin_words_words (relative (suc n)) h = (super_word, supers_words n)
 origin_words_words (packaged part more) h = (word_from_plain part h.0, words_from_plain more h.1)
 
-pub path_words_words : (p : Path) → Sound p → All Word (path_words p)
+pub path_words_words : (p : Path) → Sound p → AllByRecursion Word (path_words p)
 path_words_words p h = All-append Word (origin_words p.origin) p.components (origin_words_words p.origin h.origin) (words_from_plain p.components h.components)
 
 pub word_some : (w : List ℕ) → Word w → 0 < length w
@@ -77,6 +77,6 @@ word_bytes_append (x ∷ xs) ys h k =
     let a = and_parts _ _ h in
     and_from _ _ a.0 (word_bytes_append xs ys a.1 k)
 
-pub word_bytes_joined : (f : List ℕ → List ℕ) → ((w : List ℕ) → Word w → word_bytes (f w) ≡ true) → (ws : List (List ℕ)) → All Word ws → word_bytes (flat_map f ws) ≡ true
+pub word_bytes_joined : (f : List ℕ → List ℕ) → ((w : List ℕ) → Word w → word_bytes (f w) ≡ true) → (ws : List (List ℕ)) → AllByRecursion Word ws → word_bytes (flat_map f ws) ≡ true
 word_bytes_joined f each [] h = refl
 word_bytes_joined f each (w ∷ ws) h = word_bytes_append (f w) (flat_map f ws) (each w h.0) (word_bytes_joined f each ws h.1)

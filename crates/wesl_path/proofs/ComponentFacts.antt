@@ -1,6 +1,6 @@
 -- Components without an origin are read in one way.
 use Rattle.std.proofs.Common.{◌≡◌, ℕ, ◌+◌, ◌-◌, ◌<◌, ◌≤◌, true, false, eqb, leb, List, [], ◌∷◌, ◌++◌, length, take, drop, codes, Decides, sym, ap, ◌∙◌, subst, arith}
-use Rattle.std.specs.List.{AllByRecursion as All}
+use Rattle.std.specs.List.{AllByRecursion}
 use Rattle.std.specs.Str.{bytes_eq}
 use Rattle.std.proofs.lemmas.List.{append_assoc, append-nil, append_cancel_left, length-drop, drop_all}
 use Rattle.std.proofs.lemmas.Bool.{and_parts, and_from, leb-true, le-leb, eqb-true, eq-eqb, both_ways}
@@ -15,7 +15,7 @@ use Rattle.wesl_path.proofs.PathFacts.{components_edge, words_after_lead, words_
 use Rattle.wesl_path.proofs.OriginFacts.{text_left}
 use Rattle.wesl_path.proofs.PassedFacts.{nothing_led}
 
-pub components_from_test : (bs : List ℕ) → are_components_text bs ≡ true → (All Plain (words bs)) × (led (codes "::") (words bs) ≡ codes "::" ++ bs) × (length bs ≤ 255)
+pub components_from_test : (bs : List ℕ) → are_components_text bs ≡ true → (AllByRecursion Plain (words bs)) × (led (codes "::") (words bs) ≡ codes "::" ++ bs) × (length bs ≤ 255)
 unfolding are_components_text
 components_from_test bs e =
     let a = and_parts (bytes_eq (led (codes "::") (words bs)) (codes "::" ++ bs)) _ e in
@@ -31,13 +31,13 @@ unfolding are_components_text
 test_from_components bs h =
     let e = words_are bs h in
     and_from _ _ ((bytes_eq-Decides _ _).1 (ap (led (codes "::")) e ∙ h.printed))
-    (and_from _ _ ((all_plain_decides (words bs)).1 (subst (All Plain) (sym e) h.plain)) (le-leb (length bs) 255 h.short))
+    (and_from _ _ ((all_plain_decides (words bs)).1 (subst (AllByRecursion Plain) (sym e) h.plain)) (le-leb (length bs) 255 h.short))
 
 -- the first name, and what follows it
-first_name : (bs : List ℕ) → AreComponents bs → (w : List ℕ) × (ws : List (List ℕ)) × Plain w × All Plain ws × (bs ≡ w ++ led (codes "::") ws)
+first_name : (bs : List ℕ) → AreComponents bs → (w : List ℕ) × (ws : List (List ℕ)) × Plain w × AllByRecursion Plain ws × (bs ≡ w ++ led (codes "::") ws)
 first_name bs h = by h.names h.plain h.printed
   where
-    by : (ns : List (List ℕ)) → All Plain ns → led (codes "::") ns ≡ codes "::" ++ bs → (w : List ℕ) × (ws : List (List ℕ)) × Plain w × All Plain ws × (bs ≡ w ++ led (codes "::") ws)
+    by : (ns : List (List ℕ)) → AllByRecursion Plain ns → led (codes "::") ns ≡ codes "::" ++ bs → (w : List ℕ) × (ws : List (List ℕ)) × Plain w × AllByRecursion Plain ws × (bs ≡ w ++ led (codes "::") ws)
     by [] hp e = absurd (let z : ◌≡◌ {A = ℕ} 0 1 = cc in omega arith)
     by (w ∷ ws) hp e = (w, ws, hp.0, hp.1, sym (append_cancel_left (codes "::") (w ++ led (codes "::") ws) bs (sym (append_assoc (codes "::") w (led (codes "::") ws)) ∙ e)))
 

@@ -1,7 +1,7 @@
 -- Joined and extended paths, as they are written.
 use Rattle.std.proofs.Common.{◌≡◌, ℕ, ◌-◌, ◌<◌, ◌≤◌, true, false, cond, List, [], ◌∷◌, ◌++◌, length, take, drop, codes, sym, refl, ap, ◌∙◌, subst, inl, inr, arith}
 use native.Mathlib.Nat.{sub-zero}
-use Rattle.std.specs.List.{AllByRecursion as All}
+use Rattle.std.specs.List.{AllByRecursion}
 use Rattle.std.proofs.ByRecursion.{All-append, All-take}
 use Rattle.std.proofs.lemmas.List.{append_assoc, append-nil, length-append, length-drop, take-append-drop, take_at, take_rest}
 use Rattle.std.proofs.lemmas.Bool.{cases_lt}
@@ -26,7 +26,7 @@ use Rattle.wesl_path.proofs.ComponentFacts.{components_from_test}
 -- bytes that are a plain path's, whatever their length
 pub record Made (p : Path) (bs : List ℕ) : Type 0 where
   pub origin : PlainOrigin p.origin
-  pub components : All Plain p.components
+  pub components : AllByRecursion Plain p.components
   pub text : bs ≡ shown p
 
 -- what is then known of a path that is written so, or is too long
@@ -46,7 +46,7 @@ led_append lead [] ys = refl
 led_append lead (x ∷ xs) ys = ap (λ z. (lead ++ x) ++ z) (led_append lead xs ys) ∙ sym (append_assoc (lead ++ x) (led lead xs) (led lead ys))
 
 -- components at the end of a path's text
-extended_made : (base : List ℕ) (cs : List (List ℕ)) → is_path_text base ≡ true → All Plain cs → Made (extended (path_of base) cs) (base ++ led (codes "::") cs)
+extended_made : (base : List ℕ) (cs : List (List ℕ)) → is_path_text base ≡ true → AllByRecursion Plain cs → Made (extended (path_of base) cs) (base ++ led (codes "::") cs)
 unfolding shown
 extended_made base cs valid h =
     let p = path_of base in
@@ -186,13 +186,13 @@ module _ (base suffix : List ℕ) (h t : Head) (base-valid : is_path_text base �
       record { cut_within = s.0; from_within = s.1; joins = s.2 ∙ sym (ap (λ o. shown (joined_from p o q.components)) k.2) }
 
 -- joined paths are plain where both were
-within_plain : (o : Origin) (part : List ℕ) (more : List (List ℕ)) → PlainOrigin o → Plain part → All Plain more → PlainOrigin (within o part more)
+within_plain : (o : Origin) (part : List ℕ) (more : List (List ℕ)) → PlainOrigin o → Plain part → AllByRecursion Plain more → PlainOrigin (within o part more)
 within_plain absolute part more h hp hm = (hp, hm)
 within_plain (relative n) part more h hp hm = (hp, hm)
 within_plain (packaged part₀ more₀) part more h hp hm = (h.0, All-append Plain more₀ (part ∷ more) h.1 (hp, hm))
 
-join_plain : (p : Path) (o : Origin) (cs : List (List ℕ)) → PlainOrigin p.origin → All Plain p.components → PlainOrigin o → All Plain cs
-    → PlainOrigin (joined_from p o cs).origin × All Plain (joined_from p o cs).components
+join_plain : (p : Path) (o : Origin) (cs : List (List ℕ)) → PlainOrigin p.origin → AllByRecursion Plain p.components → PlainOrigin o → AllByRecursion Plain cs
+    → PlainOrigin (joined_from p o cs).origin × AllByRecursion Plain (joined_from p o cs).components
 join_plain p absolute cs hp hc ho h = (hp, h)
 join_plain p (relative n) cs hp hc ho h = (hp, All-append Plain (without_last_names n p.components) cs (All-take Plain (length p.components - n) p.components hc) h)
 join_plain p (packaged part more) cs hp hc ho h = (within_plain p.origin part more hp ho.0 ho.1, h)

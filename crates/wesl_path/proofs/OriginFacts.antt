@@ -1,6 +1,6 @@
 -- The origin of a path is told by its first word and by the words that follow.
 use Rattle.std.proofs.Common.{◌≡◌, ℕ, zero, suc, ◌+◌, ◌-◌, ◌<◌, ◌≤◌, true, false, List, [], ◌∷◌, ◌++◌, length, take, drop, replicate, codes, sym, refl, ap, ◌∙◌, subst, one-add, arith}
-use Rattle.std.specs.List.{AllByRecursion as All}
+use Rattle.std.specs.List.{AllByRecursion}
 use Rattle.std.specs.Str.{bytes_eq}
 use Rattle.std.proofs.lemmas.List.{append_assoc, append_cancel_left, length-replicate, drop_at}
 use Rattle.std.proofs.lemmas.Bool.{both_ways}
@@ -58,7 +58,7 @@ shown_after : (p : Path) → PlainOrigin p.origin → after_word (shown p) ≡ a
 shown_after p h = ap after_word (shown_parts p) ∙ after_is _ _ (first_inner p.origin h) (after_of_edge p.origin _ (components_edge p.components))
 
 -- no component is `super`, and none follows a slash
-supers_stop : (cs : List (List ℕ)) → All Plain cs → NotLed Super (led (codes "::") cs)
+supers_stop : (cs : List (List ℕ)) → AllByRecursion Plain cs → NotLed Super (led (codes "::") cs)
 supers_stop [] h w rest f b e = let z : ◌≡◌ {A = ℕ} 0 1 = cc in omega arith
 supers_stop (c ∷ cs) h w rest f b e =
     let g : c ++ led (codes "::") cs ≡ w ++ rest = append_cancel_left (codes "::") (c ++ led (codes "::") cs) (w ++ rest) (sym (append_assoc (codes "::") c (led (codes "::") cs)) ∙ e) in
@@ -76,7 +76,7 @@ free_not : (w v : List ℕ) → bytes_eq w v ≡ false → w ≡ v → ⊥
 free_not w v f e = both_ways (bytes_eq w v) f ((bytes_eq-Decides w v).1 e)
 
 abbrev Only : Origin → List ℕ → Type 0
-Only o rest = (q : Origin) (cs : List (List ℕ)) → PlainOrigin q → All Plain cs → first_of q ≡ first_of o → after_of q ++ led (codes "::") cs ≡ after_of o ++ rest → (q ≡ o) × (rest ≡ led (codes "::") cs)
+Only o rest = (q : Origin) (cs : List (List ℕ)) → PlainOrigin q → AllByRecursion Plain cs → first_of q ≡ first_of o → after_of q ++ led (codes "::") cs ≡ after_of o ++ rest → (q ≡ o) × (rest ≡ led (codes "::") cs)
 
 clash : {X : Type 0} → ◌≡◌ {A = ℕ} 0 1 → X
 clash e = absurd (omega arith)
@@ -93,7 +93,7 @@ only_self rest (relative zero) cs hq hc f e = (refl, sym e)
 only_self rest (relative (suc n)) cs hq hc f e = clash (cc)
 only_self rest (packaged part more) cs hq hc f e = absurd (free_not part _ (plain_is_free part hq.0).self' f)
 
-supers_fit : (n : ℕ) → All (Fits Super) (replicate n (codes "super"))
+supers_fit : (n : ℕ) → AllByRecursion (Fits Super) (replicate n (codes "super"))
 supers_fit zero = tt
 supers_fit (suc n) = (refl, supers_fit n)
 
@@ -107,7 +107,7 @@ only_super n rest hb stop (relative (suc m)) cs hq hc f e =
     (ap (λ x. relative (suc x)) (sym k), a.1)
 only_super n rest hb stop (packaged part more) cs hq hc f e = absurd (free_not part _ (plain_is_free part hq.0).super' f)
 
-only_parts : (part : List ℕ) (more : List (List ℕ)) (rest : List ℕ) → Plain part → All Plain more → Boundary rest → NotLed Part rest → Only (packaged part more) rest
+only_parts : (part : List ℕ) (more : List (List ℕ)) (rest : List ℕ) → Plain part → AllByRecursion Plain more → Boundary rest → NotLed Part rest → Only (packaged part more) rest
 only_parts part more rest hp hm hb stop absolute cs hq hc f e = absurd (free_not part _ (plain_is_free part hp).package' (sym f))
 only_parts part more rest hp hm hb stop (relative zero) cs hq hc f e = absurd (free_not part _ (plain_is_free part hp).self' (sym f))
 only_parts part more rest hp hm hb stop (relative (suc n)) cs hq hc f e = absurd (free_not part _ (plain_is_free part hp).super' (sym f))
@@ -170,7 +170,7 @@ module _ (text : List ℕ) (n : ℕ) (long : n ≡ 0 + length (first_word text))
       (sym (text_left text n long) ∙ (p.reads ∙ ap (λ x. led (codes "::") x ++ drop end text) s)) p.edge p.within
       (only_super (length p.ws) (drop end text) p.edge (p.stops few))
     where
-      supers_are : (ws : List (List ℕ)) → All (Fits Super) ws → ws ≡ replicate (length ws) (codes "super")
+      supers_are : (ws : List (List ℕ)) → AllByRecursion (Fits Super) ws → ws ≡ replicate (length ws) (codes "super")
       supers_are [] h = refl
       supers_are (w ∷ ws) h = let a = (bytes_eq-Decides w (codes "super")).0 h.0 in let b = supers_are ws h.1 in cc
 

@@ -1,6 +1,6 @@
 -- The components that are passed after a path's origin are the path's.
 use Rattle.std.proofs.Common.{◌≡◌, ℕ, ◌-◌, ◌<◌, ◌≤◌, Bool, true, eqb, List, [], ◌++◌, length, take, drop, codes, Decides, sym, ap, ◌∙◌, subst, arith}
-use Rattle.std.specs.List.{AllByRecursion as All}
+use Rattle.std.specs.List.{AllByRecursion}
 use Rattle.std.proofs.lemmas.List.{append-nil, length-append, length-drop, take_at, drop_all}
 use Rattle.std.specs.Str.{bytes_eq}
 use Rattle.std.proofs.lemmas.Slice.Eq.{bytes_eq-Decides}
@@ -21,12 +21,12 @@ pub nothing_led : NotLed Component []
 nothing_led w rest f b e = let z : ◌≡◌ {A = ℕ} 0 1 = cc in omega arith
 
 module _ (text : List ℕ) (h : Head) (headed : Headed text h) (most count end : ℕ) (passing : Passing Component most text h.end count end) where
-  pub passed_prefix : (p : Path) → PlainOrigin p.origin → All Plain p.components → text ≡ shown p → Prefix Component passing.ws p.components (drop end text) []
+  pub passed_prefix : (p : Path) → PlainOrigin p.origin → AllByRecursion Plain p.components → text ≡ shown p → Prefix Component passing.ws p.components (drop end text) []
   passed_prefix p ho hc e =
       led_prefix Component passing.ws p.components (drop end text) [] passing.fits hc passing.edge tt nothing_led
       (sym passing.reads ∙ ((headed.only p ho hc e).1 ∙ sym (append-nil (led (codes "::") p.components))))
 
-  pub passed_all : count < most → (p : Path) → PlainOrigin p.origin → All Plain p.components → text ≡ shown p → (passing.ws ≡ p.components) × (drop end text ≡ [])
+  pub passed_all : count < most → (p : Path) → PlainOrigin p.origin → AllByRecursion Plain p.components → text ≡ shown p → (passing.ws ≡ p.components) × (drop end text ≡ [])
   passed_all few p ho hc e = led_all Component passing.ws p.components (drop end text) [] tt (passing.stops few) hc (passed_prefix p ho hc e)
 
   -- a text is a path where its words go on to its end

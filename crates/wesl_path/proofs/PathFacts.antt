@@ -1,6 +1,6 @@
 -- Paths: what is printed is read back, and in one way.
 use Rattle.std.proofs.Common.{◌≡◌, ℕ, zero, suc, ◌+◌, ◌-◌, ◌<◌, ◌≤◌, true, false, cond, eqb, leb, List, [], ◌∷◌, ◌++◌, length, take, drop, replicate, codes, Decides, sym, refl, ap, ◌∙◌, subst, zero-add, arith}
-use Rattle.std.specs.List.{AllByRecursion as All}
+use Rattle.std.specs.List.{AllByRecursion}
 use Rattle.std.specs.Str.{bytes_eq}
 use Rattle.std.proofs.lemmas.List.{append_assoc, append-nil, take_at, drop_at, drop-drop, drop_all, nil_from_length}
 use Rattle.std.proofs.lemmas.List.Sums.{sum_by-append, sum_by-cons}
@@ -24,7 +24,7 @@ pub plain_solid : (w : List ℕ) → Plain w → Solid w
 plain_solid [] h = absurd (let e = plain_starts [] h in let z : ◌≡◌ {A = ℕ} 0 1 = cc in omega arith)
 plain_solid (b ∷ w) h = record { inner = plain_inner (b ∷ w) h; some = omega arith }
 
-pub plain_solids : (ws : List (List ℕ)) → All Plain ws → All Solid ws
+pub plain_solids : (ws : List (List ℕ)) → AllByRecursion Plain ws → AllByRecursion Solid ws
 plain_solids [] h = tt
 plain_solids (w ∷ ws) h = (plain_solid w h.0, plain_solids ws h.1)
 
@@ -92,7 +92,7 @@ words_after_lead Part bs = refl
 words_after_lead Super bs = refl
 words_after_lead Component bs = refl
 
-pub words_led : (s : Step) (ws : List (List ℕ)) (rest : List ℕ) → All Solid ws → Boundary rest → words (led (lead_of s) ws ++ rest) ≡ ws ++ words rest
+pub words_led : (s : Step) (ws : List (List ℕ)) (rest : List ℕ) → AllByRecursion Solid ws → Boundary rest → words (led (lead_of s) ws ++ rest) ≡ ws ++ words rest
 words_led s [] rest h k = refl
 words_led s (w ∷ ws) rest h k =
     ap words (append_assoc (lead_of s ++ w) (led (lead_of s) ws) rest ∙ append_assoc (lead_of s) w (led (lead_of s) ws ++ rest))
@@ -101,7 +101,7 @@ words_led s (w ∷ ws) rest h k =
     ∙ ap (λ x. w ∷ x) (words_led s ws rest h.1 k)))
 
 -- the components at the end of a path
-pub words_components : (cs : List (List ℕ)) → All Plain cs → words (led (codes "::") cs) ≡ cs
+pub words_components : (cs : List (List ℕ)) → AllByRecursion Plain cs → words (led (codes "::") cs) ≡ cs
 unfolding words
 words_components cs h =
     ap words (sym (append-nil (led (codes "::") cs))) ∙ (words_led Component cs [] (plain_solids cs h) tt ∙ append-nil cs)
@@ -109,7 +109,7 @@ words_components cs h =
 pub super_solid : Solid (codes "super")
 super_solid = record { inner = (refl, (refl, (refl, (refl, (refl, tt))))); some = omega arith }
 
-supers_solid : (n : ℕ) → All Solid (replicate n (codes "super"))
+supers_solid : (n : ℕ) → AllByRecursion Solid (replicate n (codes "super"))
 supers_solid zero = tt
 supers_solid (suc n) = (super_solid, supers_solid n)
 
@@ -129,7 +129,7 @@ slashes_inner (b ∷ w) h =
     let f : ◌≡◌ {A = ℕ} (cond (eqb b 47) 1 0) 0 = grind (arith, nat_tests) in
     sum_by-cons (λ x. cond (eqb x 47) 1 0) b w ∙ (omega (arith, e, f))
 
-slashes_parts : (ws : List (List ℕ)) → All Solid ws → slashes (led (codes "/") ws) ≡ length ws
+slashes_parts : (ws : List (List ℕ)) → AllByRecursion Solid ws → slashes (led (codes "/") ws) ≡ length ws
 unfolding slashes
 slashes_parts [] h = refl
 slashes_parts (w ∷ ws) h =
@@ -137,7 +137,7 @@ slashes_parts (w ∷ ws) h =
     ∙ (ap (λ x. x + slashes (led (codes "/") ws)) (sum_by-cons (λ x. cond (eqb x 47) 1 0) 47 w ∙ ap (λ x. 1 + x) (slashes_inner w h.0.inner))
     ∙ (let e = slashes_parts ws h.1 in omega (arith, e)))
 
-slashes_components : (ws : List (List ℕ)) → All Solid ws → slashes (led (codes "::") ws) ≡ 0
+slashes_components : (ws : List (List ℕ)) → AllByRecursion Solid ws → slashes (led (codes "::") ws) ≡ 0
 unfolding slashes
 slashes_components [] h = refl
 slashes_components (w ∷ ws) h =
@@ -160,11 +160,11 @@ plain_is_free w h =
     let d = or_parts (bytes_eq w (codes "super")) (bytes_eq w (codes "import")) b.1 in
     record { package' = a.0; self' = b.0; super' = d.0; import' = d.1 }
 
-supers_end : (n : ℕ) (cs : List (List ℕ)) → All Plain cs → after_super n cs ≡ record { origin = relative n; components = cs }
+supers_end : (n : ℕ) (cs : List (List ℕ)) → AllByRecursion Plain cs → after_super n cs ≡ record { origin = relative n; components = cs }
 supers_end n [] h = refl
 supers_end n (c ∷ cs) h = let e = (plain_is_free c h.0).super' in rw e
 
-supers_count : (m n : ℕ) (cs : List (List ℕ)) → All Plain cs → after_super m (replicate n (codes "super") ++ cs) ≡ record { origin = relative (n + m); components = cs }
+supers_count : (m n : ℕ) (cs : List (List ℕ)) → AllByRecursion Plain cs → after_super m (replicate n (codes "super") ++ cs) ≡ record { origin = relative (n + m); components = cs }
 supers_count m zero cs h = supers_end m cs h ∙ ap (λ k. record { origin = relative k; components = cs }) (sym (zero-add m))
 supers_count m (suc n) cs h =
     supers_count (suc m) n cs h ∙ ap (λ k. record { origin = relative k; components = cs }) (let e : n + suc m ≡ suc n + m = omega arith in e)
@@ -173,7 +173,7 @@ of_part : (n : ℕ) (w : List ℕ) (ws : List (List ℕ)) → Free w → of_word
 of_part n w ws f = let a = f.package' in let b = f.self' in let d = f.super' in rw (a, b, d)
 
 -- the words of a printed path
-words_shown : (o : Origin) (cs : List (List ℕ)) → PlainOrigin o → All Plain cs → words (shown (record { origin = o; components = cs })) ≡ origin_words o ++ cs
+words_shown : (o : Origin) (cs : List (List ℕ)) → PlainOrigin o → AllByRecursion Plain cs → words (shown (record { origin = o; components = cs })) ≡ origin_words o ++ cs
 unfolding shown
 words_shown absolute cs ho hc =
     words_front (codes "package") (led (codes "::") cs) (record { inner = (refl, (refl, (refl, (refl, (refl, (refl, (refl, tt))))))); some = omega arith }) (components_edge cs)
@@ -192,7 +192,7 @@ words_shown (packaged part more) cs ho hc =
     ∙ ap (λ x. part ∷ x) (words_led Part more _ (plain_solids more ho.1) (components_edge cs) ∙ ap (λ x. more ++ x) (words_components cs hc)))
 
 -- the slashes of a printed path part its package's name
-slashes_shown : (part : List ℕ) (more cs : List (List ℕ)) → Plain part → All Plain more → All Plain cs
+slashes_shown : (part : List ℕ) (more cs : List (List ℕ)) → Plain part → AllByRecursion Plain more → AllByRecursion Plain cs
     → slashes (shown (record { origin = packaged part more; components = cs })) ≡ length more
 unfolding shown
 slashes_shown part more cs hp hm hc =
@@ -204,11 +204,11 @@ slashes_shown part more cs hp hm hc =
     omega (arith, a, b, d, e))
 
 -- what is printed is read back
-pub path_back : (p : Path) → PlainOrigin p.origin → All Plain p.components → path_of (shown p) ≡ p
+pub path_back : (p : Path) → PlainOrigin p.origin → AllByRecursion Plain p.components → path_of (shown p) ≡ p
 unfolding path_of
 path_back p ho hc = by_origin p.origin p.components ho hc
   where
-    by_origin : (o : Origin) (cs : List (List ℕ)) → PlainOrigin o → All Plain cs → path_of (shown (record { origin = o; components = cs })) ≡ record { origin = o; components = cs }
+    by_origin : (o : Origin) (cs : List (List ℕ)) → PlainOrigin o → AllByRecursion Plain cs → path_of (shown (record { origin = o; components = cs })) ≡ record { origin = o; components = cs }
     by_origin absolute cs ho hc = ap (of_words _) (words_shown absolute cs ho hc)
     by_origin (relative zero) cs ho hc = ap (of_words _) (words_shown (relative zero) cs ho hc)
     by_origin (relative (suc n)) cs ho hc =
@@ -222,7 +222,7 @@ path_back p ho hc = by_origin p.origin p.components ho hc
         let d = drop_at more cs (length more) refl in
         rw (t, d))))
 
-pub all_plain_decides : (ws : List (List ℕ)) → Decides (all_plain ws) (All Plain ws)
+pub all_plain_decides : (ws : List (List ℕ)) → Decides (all_plain ws) (AllByRecursion Plain ws)
 all_plain_decides = Decides-by_and plain Plain all_plain (λ w. ((λ e. e), (λ e. e))) refl (λ _ _. refl)
 
 plain_origin_decides : (o : Origin) → Decides (plain_origin o) (PlainOrigin o)
@@ -257,7 +257,7 @@ test_from_path p h =
     let e = path_back p h.origin h.components in
     and_from _ _ ((bytes_eq-Decides _ _).1 (ap shown e))
     (and_from _ _ ((plain_origin_decides _).1 (subst (λ q. PlainOrigin q.origin) (sym e) h.origin))
-    (and_from _ _ ((all_plain_decides _).1 (subst (λ q. All Plain q.components) (sym e) h.components)) (le-leb (length (shown p)) 255 h.short)))
+    (and_from _ _ ((all_plain_decides _).1 (subst (λ q. AllByRecursion Plain q.components) (sym e) h.components)) (le-leb (length (shown p)) 255 h.short)))
 
 pub is_path_decides : (bs : List ℕ) → Decides (is_path_text bs) (IsPath bs)
 is_path_decides bs = (

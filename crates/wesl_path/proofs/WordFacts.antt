@@ -1,6 +1,6 @@
 -- Words: where they end, and that there is one way to read words that follow one another.
 use Rattle.std.proofs.Common.{◌≡◌, ℕ, ◌+◌, ◌-◌, ◌<◌, ◌≤◌, true, false, cond, leb, List, [], ◌∷◌, ◌++◌, length, get_or, take, drop, codes, sym, refl, ap, ◌∙◌, subst, inl, inr, one-add, arith, lit<}
-use Rattle.std.specs.List.{AllByRecursion as All}
+use Rattle.std.specs.List.{AllByRecursion}
 use Rattle.std.specs.Str.{bytes_eq}
 use Rattle.std.proofs.lemmas.List.{append_assoc, append-nil, length_push, append_cancel_left, at_drop_more, at_drop_all, take-append-drop, take_at, drop_at, drop-drop, length-drop, length-append}
 use Rattle.std.proofs.ByRecursion.{All-drop, All-push}
@@ -15,7 +15,7 @@ use Rattle.wesl_path.specs.declared.words.Step.TheVariants.{Part, Super, Compone
 
 -- no byte of the word parts words
 abbrev pub Inner : List ℕ → Type 0
-Inner w = All (λ b. parts_words b ≡ false) w
+Inner w = AllByRecursion (λ b. parts_words b ≡ false) w
 
 pub first_inner : (bs : List ℕ) → Inner (first_word bs)
 first_inner [] = tt
@@ -111,7 +111,7 @@ pub record Prefix (s : Step) (ws cs : List (List ℕ)) (rest tail : List ℕ) : 
   pub same : ws ≡ take (length ws) cs
   pub left : rest ≡ led (lead_of s) (drop (length ws) cs) ++ tail
 
-pub led_prefix : (s : Step) (ws cs : List (List ℕ)) (rest tail : List ℕ) → All (Fits s) ws → All (Fits s) cs → Boundary rest → Boundary tail → NotLed s tail
+pub led_prefix : (s : Step) (ws cs : List (List ℕ)) (rest tail : List ℕ) → AllByRecursion (Fits s) ws → AllByRecursion (Fits s) cs → Boundary rest → Boundary tail → NotLed s tail
     → led (lead_of s) ws ++ rest ≡ led (lead_of s) cs ++ tail → Prefix s ws cs rest tail
 led_prefix s [] cs rest tail hw hc hr ht stop e = record { few = omega arith; same = refl; left = e }
 led_prefix s (w ∷ ws) [] rest tail hw hc hr ht stop e =
@@ -128,11 +128,11 @@ led_prefix s (w ∷ ws) (c ∷ cs) rest tail hw hc hr ht stop e =
     record { few = (let k = p.few in omega arith); same = (cc); left = p.left }
 
 -- where no further word of the kind follows, none is left
-led_none : (s : Step) (ds : List (List ℕ)) (rest tail : List ℕ) → Boundary tail → NotLed s rest → All (Fits s) ds → rest ≡ led (lead_of s) ds ++ tail → (ds ≡ []) × (rest ≡ tail)
+led_none : (s : Step) (ds : List (List ℕ)) (rest tail : List ℕ) → Boundary tail → NotLed s rest → AllByRecursion (Fits s) ds → rest ≡ led (lead_of s) ds ++ tail → (ds ≡ []) × (rest ≡ tail)
 led_none s [] rest tail ht stop h e = (refl, e)
 led_none s (d ∷ ds) rest tail ht stop h e = absurd (stop d (led (lead_of s) ds ++ tail) h.0 (led_edge s ds tail ht) (e ∙ simp append_assoc))
 
-pub led_all : (s : Step) (ws cs : List (List ℕ)) (rest tail : List ℕ) → Boundary tail → NotLed s rest → All (Fits s) cs → Prefix s ws cs rest tail → (ws ≡ cs) × (rest ≡ tail)
+pub led_all : (s : Step) (ws cs : List (List ℕ)) (rest tail : List ℕ) → Boundary tail → NotLed s rest → AllByRecursion (Fits s) cs → Prefix s ws cs rest tail → (ws ≡ cs) × (rest ≡ tail)
 led_all s ws cs rest tail ht stop hc p =
     let n = led_none s (drop (length ws) cs) rest tail ht stop (All-drop (Fits s) (length ws) cs hc) p.left in
     let whole = take-append-drop (length ws) cs in

@@ -1,6 +1,6 @@
 -- Components without an origin: plain names parted by `::`.
 use Rattle.std.specs.Prelude.{◌≡◌, ℕ, ◌≤◌, Bool, ◌&&◌, List, ◌++◌, length, codes, nat_le}
-use Rattle.std.specs.List.{AllByRecursion as All}
+use Rattle.std.specs.List.{AllByRecursion}
 use Rattle.std.specs.Str.{bytes_eq}
 use Rattle.wesl_path.specs.Name.{Plain}
 use Rattle.wesl_path.specs.Path.{led, words, all_plain}
@@ -8,7 +8,7 @@ use Rattle.wesl_path.specs.Path.{led, words, all_plain}
 -- bytes that are one or more plain names parted by `::`, at most 255 bytes: with `::` before them they are words, each led by `::`
 pub record AreComponents (bs : List ℕ) : Type 0 where
   pub names : List (List ℕ)
-  pub plain : All Plain names
+  pub plain : AllByRecursion Plain names
   pub printed : led (codes "::") names ≡ codes "::" ++ bs
   pub short : length bs ≤ 255
 

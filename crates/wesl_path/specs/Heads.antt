@@ -1,6 +1,6 @@
 -- The origin at the front of a text.
 use Rattle.std.specs.Prelude.{◌≡◌, ℕ, ◌+◌, ◌≤◌, List, ◌++◌, length, take, drop, codes, ◌≢◌}
-use Rattle.std.specs.List.{AllByRecursion as All}
+use Rattle.std.specs.List.{AllByRecursion}
 use Rattle.wesl_path.specs.Name.{Plain}
 use Rattle.wesl_path.specs.Path.{Origin, absolute, relative, packaged, Path, led, shown_origin, shown, PlainOrigin, path_of}
 use Rattle.wesl_path.specs.Words.{Boundary}
@@ -22,11 +22,11 @@ pub record Headed (text : List ℕ) (h : Head) : Type 0 where
   pub reads : text ≡ shown_origin found ++ drop h.end text
   pub edge : Boundary (drop h.end text)
   pub within : h.end ≤ length text
-  pub only : (p : Path) → PlainOrigin p.origin → All Plain p.components → text ≡ shown p → (p.origin ≡ found) × (drop h.end text ≡ led (codes "::") p.components)
+  pub only : (p : Path) → PlainOrigin p.origin → AllByRecursion Plain p.components → text ≡ shown p → (p.origin ≡ found) × (drop h.end text ≡ led (codes "::") p.components)
 
 -- a text from which no path can be read, whatever its length
 abbrev pub Headless : List ℕ → Type 0
-Headless text = (p : Path) → PlainOrigin p.origin → All Plain p.components → text ≢ shown p
+Headless text = (p : Path) → PlainOrigin p.origin → AllByRecursion Plain p.components → text ≢ shown p
 
 -- a path's own origin, and where its bytes end
 pub record HeadOf (text : List ℕ) (h : Head) : Type 0 where

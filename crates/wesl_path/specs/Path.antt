@@ -1,6 +1,6 @@
 -- Module paths: an origin and components, how they are printed, and how they are joined.
 use Rattle.std.specs.Prelude.{◌≡◌, ℕ, zero, suc, ◌-◌, ◌≤◌, Bool, true, cond, ◌&&◌, List, [], ◌∷◌, ◌++◌, length, take, drop, replicate, codes, count_by, ◌==◌, nat_eq, nat_le}
-use Rattle.std.specs.List.{flat_map, AllByRecursion as All}
+use Rattle.std.specs.List.{flat_map, AllByRecursion}
 use Rattle.std.specs.Str.{bytes_eq}
 use Rattle.wesl_path.specs.Name.{plain, Plain}
 
@@ -32,12 +32,12 @@ shown p = shown_origin p.origin ++ led (codes "::") p.components
 abbrev pub PlainOrigin : Origin → Type 0
 PlainOrigin absolute = Unit {0}
 PlainOrigin (relative n) = Unit {0}
-PlainOrigin (packaged part more) = Plain part × All Plain more
+PlainOrigin (packaged part more) = Plain part × AllByRecursion Plain more
 
 -- a path that there is: all names plain, at most 255 bytes as written
 pub record Sound (p : Path) : Type 0 where
   pub origin : PlainOrigin p.origin
-  pub components : All Plain p.components
+  pub components : AllByRecursion Plain p.components
   pub short : length (shown p) ≤ 255
 
 -- bytes that are a path

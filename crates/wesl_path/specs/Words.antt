@@ -1,6 +1,6 @@
 -- Words in a text, and the words that follow one another, each after its lead.
 use Rattle.std.specs.Prelude.{◌≡◌, ℕ, ◌+◌, ◌<◌, ◌≤◌, Bool, true, cond, List, [], ◌∷◌, ◌++◌, length, drop, codes, ◌≢◌}
-use Rattle.std.specs.List.{AllByRecursion as All}
+use Rattle.std.specs.List.{AllByRecursion}
 use Rattle.std.specs.Str.{bytes_eq}
 use Rattle.wesl_path.specs.Name.{plain}
 use Rattle.wesl_path.specs.Path.{parts_words, led}
@@ -52,7 +52,7 @@ pub record LedWord (s : Step) (text : List ℕ) (at end : ℕ) : Type 0 where
 -- words of a kind stand from `at` to `end`, as many as there are or as were asked for
 pub record Passing (s : Step) (most : ℕ) (text : List ℕ) (at count end : ℕ) : Type 0 where
   pub ws : List (List ℕ)
-  pub fits : All (Fits s) ws
+  pub fits : AllByRecursion (Fits s) ws
   pub many : count ≡ length ws
   pub few : count ≤ most
   pub reads : drop at text ≡ led (lead_of s) ws ++ drop end text

@@ -12,20 +12,27 @@ while [ -L "$self" ]; do
     esac
 done
 root=$(CDPATH='' cd -- "$(dirname -- "$self")" && pwd -P) || exit 1
-program=$root/target/bin/wesl
+program=$root/crates/wesl/out/wesl
 begun=$root/target/wesl-build-begun
 
-out_of_date() {
-    [ ! -x "$program" ] || [ -n "$(find "$root/crates" "$root/crates.txt" -newer "$program")" ]
+# What rt keeps beside the sources, in folders named out, is no source.
+newer_sources() {
+    find "$root/crates" -mindepth 2 -name out -prune -o -newer "$program" -print
+    find "$root/crates.txt" -newer "$program"
 }
 
-# The build takes standard input from nowhere: that may be the list to name.
+out_of_date() {
+    [ ! -x "$program" ] || [ -n "$(newer_sources)" ]
+}
+
+# rt links a program only to run it, so it is run once, for its help. It takes standard input from nowhere: that may be
+# the list to name.
 build() {
-    cd -- "$root" && mkdir -p target && : >"$begun" && rt check wesl </dev/null 2>&1
+    mkdir -p -- "$root/target" && : >"$begun" && cd -- "$root/crates/wesl" && rt run -- help </dev/null 2>&1
 }
 
 if out_of_date; then
-    echo "wesl: building the program with 'rt check wesl', which can take minutes" >&2
+    echo "wesl: building the program with 'rt run', which can take minutes" >&2
     if ! log=$(build); then
         printf '%s\n' "$log" >&2
         echo "wesl: the build failed" >&2

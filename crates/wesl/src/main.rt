@@ -58,11 +58,11 @@ fn run(rt: &HostRuntime) -> Result<(), Failure> {
         Command::DemoBundle => write_bundled(rt.alloc(), &mut out),
         Command::Help => write_help(&mut out),
         Command::Names(file) => {
-            let list = read_input(rt, file)?;
+            let list = read_list(rt, file)?;
             write_names(rt.alloc(), list.as_slice(), &mut out)
         }
         Command::Modules(file) => {
-            let bundle = read_input(rt, file)?;
+            let bundle = read_list(rt, file)?;
             write_modules(rt.alloc(), bundle.as_slice(), &mut out)
         }
     };
@@ -75,7 +75,7 @@ fn write_help<W: Write>(out: &mut W) -> Result<(), Failure> {
     Ok(())
 }
 
-fn read_input(rt: &HostRuntime, file: Option<String>) -> Result<Vec<u8>, Failure> {
+fn read_list(rt: &HostRuntime, file: Option<String>) -> Result<Vec<u8>, Failure> {
     let read = match &file {
         Some(file) => fs::read(rt, file.as_str()),
         None => read_stdin(rt),

@@ -58,7 +58,7 @@ fn write_name(cell: &mut [u8], path: &ModulePath, item: &PlainName) -> usize
 
 fn give_name(path: &ModulePath, item: &PlainName, out: &mut [u8]) -> Result<usize, MangleFault>
     ensures answer { Answered (by_lengths (path_value path.now) (name_text item.now)) out.old out.new result }
-    ensures back { IfOk result (λ n. from_lengths (take n out.new) ≡ record { path = path_value path.entry.now; name = name_text item.now }) }
+    ensures back { IfOk result (λ n. from_lengths (take n out.new) ≡ record { path = path_value path.now; name = name_text item.now }) }
 {
     let mut cell = [0u8; LONGEST_MANGLED];
     let end = write_name(&mut cell, path, item);
@@ -79,7 +79,7 @@ impl Mangler for LengthMangler {
         out: &mut [u8],
     ) -> Result<usize, MangleFault>
         ensures answer { Answered (by_lengths (path_value path.now) (name_text item.now)) out.old out.new result }
-        ensures back { IfOk result (λ n. from_lengths (take n out.new) ≡ record { path = path_value path.entry.now; name = name_text item.now }) }
+        ensures back { IfOk result (λ n. from_lengths (take n out.new) ≡ record { path = path_value path.now; name = name_text item.now }) }
     {
         give_name(path, item, out)
     }

@@ -61,3 +61,25 @@ fn write_named<W: Write>(declaration: &Declaration, out: &mut W) -> Result<(), F
     writeln!(out, "{path}\t{item}\t{escaped}\t{lengths}")?;
     Ok(())
 }
+
+#[cfg(test)]
+mod tests {
+    use super::*;
+    use std::test::Fail;
+
+    const LIST: &[u8] = b"package::cal\tfactor\nsensors/filters\tmy_max\n";
+
+    const NAMED: &str = "\
+package::cal\tfactor\tpackage_cal_factor\tp3_cal6_factor
+sensors/filters\tmy_max\timport_2_sensors_filters__1my_max\tk2_7_sensors7_filters6_my_max
+2 named, 0 refused
+";
+
+    #[test]
+    fn names_each_line_of_a_list(rt: HostRuntime) -> Result<(), Fail> {
+        let mut out = Vec::new(rt.alloc());
+        write_names(rt.alloc(), LIST, &mut out).map_err(|failure| Fail::new(failure))?;
+        assert_eq!(rt; text_of(out.as_slice()), NAMED);
+        Ok(())
+    }
+}

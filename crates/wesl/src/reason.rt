@@ -218,7 +218,6 @@ impl fmt::Display for WordFault {
 mod tests {
     use super::*;
     use std::alloc::{AllocError, Global};
-    use std::process::Abort;
     use std::test::Fail;
 
     const PATHS: [(&[u8], &str); 18] = [
@@ -319,26 +318,31 @@ mod tests {
         Ok(text)
     }
 
-    fn check_agrees(rt: &impl Abort, text: &str) {
+    fn check_agrees(text: &str) -> Result<(), Fail> {
         let bytes = text.as_bytes();
-        assert_eq!(rt; check_path(bytes).is_ok(), is_path(bytes));
-        assert_eq!(rt; check_word(bytes, Role::Name).is_ok(), is_plain(bytes));
+        if check_path(bytes).is_ok() != is_path(bytes) {
+            return Err(Fail::new("a reason, and no refusal of a path, or the other way round"));
+        }
+        if check_word(bytes, Role::Name).is_ok() != is_plain(bytes) {
+            return Err(Fail::new("a reason, and no refusal of a name, or the other way round"));
+        }
+        Ok(())
     }
 
     #[test]
     fn finds_one_just_where_the_library_refuses(rt: HostRuntime) -> Result<(), Fail> {
         for code in 0..248832 {
             let text = spelled(rt.alloc(), code)?;
-            check_agrees(&rt, text.as_str());
+            check_agrees(text.as_str())?;
         }
         Ok(())
     }
 
     // Adds a piece over and over, past the longest path.
-    fn check_lengths(rt: &impl Abort, heap: Global, start: &str, piece: &str) -> Result<(), Fail> {
+    fn check_lengths(heap: Global, start: &str, piece: &str) -> Result<(), Fail> {
         let mut text = String::from_str(heap, start)?;
         for _ in 0..260 {
-            check_agrees(rt, text.as_str());
+            check_agrees(text.as_str())?;
             text.push_str(piece)?;
         }
         Ok(())
@@ -346,10 +350,10 @@ mod tests {
 
     #[test]
     fn finds_one_just_where_a_text_is_too_long(rt: HostRuntime) -> Result<(), Fail> {
-        check_lengths(&rt, rt.alloc(), "", "a")?;
-        check_lengths(&rt, rt.alloc(), "package::", "a")?;
+        check_lengths(rt.alloc(), "", "a")?;
+        check_lengths(rt.alloc(), "package::", "a")?;
         // These come to 255 and to 256 bytes.
-        check_lengths(&rt, rt.alloc(), "abc", "::a")?;
-        check_lengths(&rt, rt.alloc(), "a", "::a")
+        check_lengths(rt.alloc(), "abc", "::a")?;
+        check_lengths(rt.alloc(), "a", "::a")
     }
 }

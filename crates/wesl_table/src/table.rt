@@ -44,7 +44,8 @@ impl<'a, T: Copy> Table<'a, T> {
         }
     }
 
-    /// The record at the index of one that is there. It serves records that borrow, which `get` cannot hand over today.
+    /// The record at the index of one that is there. It serves records that borrow, which an older Rattle could not hand
+    /// over in an `Option`.
     pub fn at(&self, i: usize) -> T
         requires { i < length (records self.now) }
         ensures { HoldsAt (λ y. y ≡ result) (records self.now) i }

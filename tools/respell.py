@@ -1,5 +1,5 @@
 #!/usr/bin/env python3
-"""Respells the repository's own names of definitions and lemmas, once, after /opt/rattle/port/port.py.
+"""Respells the repository's own names of definitions and lemmas, once, after port/port.py of the kit.
 
 usage: python3 tools/respell.py [--dry]     at the top of the repository
 

@@ -1,3 +1,4 @@
+pub mod Inline
 pub mod Name
 pub mod Path
 pub mod Words

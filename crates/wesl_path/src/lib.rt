@@ -4,6 +4,7 @@
 pub mod cells;
 pub mod components;
 pub mod fault;
+pub mod inline;
 pub mod join;
 pub mod limits;
 pub mod module_path;
@@ -14,6 +15,7 @@ pub mod words;
 pub use components::Components;
 pub use components::methods::are_components;
 pub use fault::PathFault;
+pub use inline::{InlineBytes, NoRoom};
 pub use limits::{LONGEST_NAME, LONGEST_PATH};
 pub use module_path::ModulePath;
 pub use module_path::methods::is_path;

@@ -1,0 +1,37 @@
+//! Reading bytes held in place, and adding to them.
+ghost use Rattle.std.specs.Prelude.{◌≡◌, []};
+ghost use Rattle.wesl_path.specs.Inline.{held, Extended};
+
+use crate::cells::put;
+use crate::inline::{InlineBytes, NoRoom};
+
+impl<const N: usize> InlineBytes<N> {
+    /// No bytes.
+    pub fn new() -> InlineBytes<N>
+        ensures { held result ≡ [] }
+    {
+        InlineBytes {
+            cells: [0; N],
+            len: 0,
+        }
+    }
+
+    /// The bytes that are held.
+    pub fn as_slice(&self) -> &[u8]
+        ensures { result.now ≡ held self.now }
+    {
+        &self.cells[..self.len]
+    }
+
+    /// Adds bytes at the end, where there is room for them.
+    pub fn push(&mut self, bytes: &[u8]) -> Result<(), NoRoom>
+        ensures { Extended N bytes.now self.old self.new result }
+    {
+        if bytes.len() > N - self.len {
+            return Err(NoRoom {});
+        }
+        put(&mut self.cells, self.len, bytes);
+        self.len += bytes.len();
+        Ok(())
+    }
+}

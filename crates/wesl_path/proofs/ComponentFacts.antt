@@ -42,13 +42,13 @@ first_name bs h = by h.names h.plain h.printed
     by (w ∷ ws) hp e = (w, ws, hp.0, hp.1, sym (append_cancel_left (codes "::") (w ++ led (codes "::") ws) bs (sym (append_assoc (codes "::") w (led (codes "::") ws)) ∙ e)))
 
 module _ (text : List ℕ) (n : ℕ) (long : n ≡ 0 + length (first_word text)) where
-  pub no_components : plain (take (n - 0) text) ≡ false → AreComponents text → ⊥
+  pub no_components : plain (take n text) ≡ false → AreComponents text → ⊥
   no_components e h =
       let f = first_name text h in
       let same : first_word text ≡ f.0 = ap first_word f.4 ∙ first_is f.0 _ (plain_inner f.0 f.2) (components_edge f.1) in
       both_ways (plain f.0) (ap plain (sym (first_taken text n long ∙ same)) ∙ e) f.2
 
-  pub passed_components : plain (take (n - 0) text) ≡ true → length text ≤ 255 → (most count end : ℕ) → count < most → Passing Component most text n count end
+  pub passed_components : plain (take n text) ≡ true → length text ≤ 255 → (most count end : ℕ) → count < most → Passing Component most text n count end
       → Decides (eqb end (length text)) (AreComponents text)
   passed_components e short most count end few p =
       let w = first_word text in

@@ -1,15 +1,14 @@
 -- Joined and extended paths, as they are written.
-use Rattle.std.proofs.Common.{◌≡◌, ℕ, ◌-◌, ◌<◌, ◌≤◌, true, false, cond, List, [], ◌∷◌, ◌++◌, length, take, drop, codes, sym, refl, ap, ◌∙◌, subst, inl, inr, arith}
-use native.Mathlib.Nat.{sub-zero}
+use Rattle.std.proofs.Common.{◌≡◌, ℕ, ◌-◌, ◌<◌, ◌≤◌, true, List, [], ◌∷◌, ◌++◌, length, take, drop, Result, Ok, Err, MatchResult, codes, sym, refl, ap, ◌∙◌, subst, inl, inr, arith}
 use Rattle.std.specs.List.{AllByRecursion}
 use Rattle.std.proofs.ByRecursion.{All-append, All-take}
-use Rattle.std.proofs.lemmas.List.{append_assoc, append-nil, length-append, length-drop, take-append-drop, take_at, take_rest}
+use Rattle.std.proofs.lemmas.List.{append_assoc, append-nil, length-append, length-drop, take-append-drop, take_at}
 use Rattle.std.proofs.lemmas.Bool.{cases_lt}
 use Rattle.wesl_path.specs.Name.{Plain}
 use Rattle.wesl_path.specs.Path.{Origin, absolute, relative, packaged, Path, led, shown_origin, shown, PlainOrigin, without_last_names, within, joined_from, join_path, extended, path_of, is_path_text}
 use Rattle.wesl_path.specs.Words.{Passing}
 use Rattle.wesl_path.specs.Heads.{kind_of, HeadOf}
-use Rattle.wesl_path.specs.Joins.{Seamed, in_package}
+use Rattle.wesl_path.specs.Joins.{Given, in_package}
 use Rattle.wesl_path.specs.Texts.{path_text, path_value, components_text, components_value, name_text}
 use Rattle.wesl_path.specs.declared.components.Components.{Components}
 use Rattle.wesl_path.specs.declared.module_path.ModulePath.{ModulePath}
@@ -17,7 +16,8 @@ use Rattle.wesl_path.specs.declared.name.PlainName.{PlainName}
 use Rattle.wesl_path.specs.declared.words.Step.TheVariants.{Component}
 use Rattle.wesl_path.specs.declared.origin.PathOrigin.TheVariants.{Absolute, Relative, Package}
 use Rattle.wesl_path.specs.declared.origin.Head.{Head}
-use Rattle.wesl_path.specs.declared.join.Seam.{Seam}
+use Rattle.wesl_path.specs.declared.fault.PathFault.{PathFault}
+use Rattle.wesl_path.specs.declared.fault.PathFault.TheVariants.{Long}
 use Rattle.wesl_path.proofs.WordFacts.{led_all}
 use Rattle.wesl_path.proofs.PathFacts.{path_back, path_from_test, test_from_path}
 use Rattle.wesl_path.proofs.PassedFacts.{own_prefix}
@@ -40,6 +40,12 @@ made_value p bs r m e = ap path_of (e ∙ m.text) ∙ path_back p m.origin m.com
 
 pub made_long : (p : Path) (bs : List ℕ) → Made p bs → 255 < length bs → 255 < length (shown p)
 made_long p bs m l = let k = ap length m.text in omega (arith, k)
+
+-- what is then answered for it
+pub made_given : (p : Path) (bs : List ℕ) (r : Result ModulePath PathFault) → Made p bs
+    → MatchResult r (λ m. path_text m ≡ bs) (λ e. (e ≡ Long) × (255 < length bs)) → Given p r
+made_given p bs (Ok r) m h = made_value p bs r m h
+made_given p bs (Err e) m h = subst (λ e. Given p (Err e)) (sym h.0) (made_long p bs m h.1)
 
 led_append : (lead : List ℕ) (xs ys : List (List ℕ)) → led lead (xs ++ ys) ≡ led lead xs ++ led lead ys
 led_append lead [] ys = refl
@@ -120,70 +126,54 @@ kind_package (relative m) n e = absurd (let z : ◌≡◌ {A = ℕ} 0 1 = cc in 
 kind_package (packaged part more) n e = (part, more, refl)
 
 -- a package read from a module, by the module's origin
-PackageJoins : List ℕ → List ℕ → Seam → Path → Type 0
-PackageJoins base suffix s p = (s.cut ≤ length base) × (s.from ≤ length suffix) × (take s.cut base ++ (cond s.slash (codes "/") [] ++ drop s.from suffix) ≡ shown p)
-
-package_joins : (base suffix part : List ℕ) (more cs : List (List ℕ)) (end : ℕ) → end ≤ length base → suffix ≡ (part ++ led (codes "/") more) ++ led (codes "::") cs → (o : Origin)
-    → take end base ≡ shown_origin o → PackageJoins base suffix (in_package (kind_of o) end) (record { origin = within o part more; components = cs })
-unfolding PackageJoins shown
-package_joins base suffix part more cs end l e absolute f = (omega arith, omega arith, e)
-package_joins base suffix part more cs end l e (relative n) f = (omega arith, omega arith, e)
-package_joins base suffix part more cs end l e (packaged part₀ more₀) f =
+in_package_shown : (outer inner part : List ℕ) (more cs : List (List ℕ)) → inner ≡ (part ++ led (codes "/") more) ++ led (codes "::") cs → (o : Origin) → outer ≡ shown_origin o
+    → in_package (kind_of o) outer inner ≡ shown (record { origin = within o part more; components = cs })
+unfolding shown
+in_package_shown outer inner part more cs e absolute f = e
+in_package_shown outer inner part more cs e (relative n) f = e
+in_package_shown outer inner part more cs e (packaged part₀ more₀) f =
     let slash = codes "/" in
     let back = led (codes "::") cs in
     let flat = part₀ ++ (led slash more₀ ++ (slash ++ (part ++ (led slash more ++ back)))) in
     let left : (part₀ ++ led slash more₀) ++ (slash ++ ((part ++ led slash more) ++ back)) ≡ flat = simp append_assoc in
-    let right : (part₀ ++ (led slash more₀ ++ ((slash ++ part) ++ led slash more))) ++ back ≡ flat = simp append_assoc in (
-      l,
-      omega arith,
-      ap (λ x. x ++ (slash ++ suffix)) f
-          ∙ (ap (λ x. (part₀ ++ led slash more₀) ++ (slash ++ x)) e
-          ∙ (left ∙ sym (ap (λ x. (part₀ ++ x) ++ back) (led_append slash more₀ (part ∷ more)) ∙ right))),
-    )
+    let right : (part₀ ++ (led slash more₀ ++ ((slash ++ part) ++ led slash more))) ++ back ≡ flat = simp append_assoc in
+    ap (λ x. x ++ (slash ++ inner)) f
+    ∙ (ap (λ x. (part₀ ++ led slash more₀) ++ (slash ++ x)) e
+    ∙ (left ∙ sym (ap (λ x. (part₀ ++ x) ++ back) (led_append slash more₀ (part ∷ more)) ∙ right)))
 
-module _ (base suffix : List ℕ) (h t : Head) (base-valid : is_path_text base ≡ true) (suffix-valid : is_path_text suffix ≡ true) (head : HeadOf base h) (tail : HeadOf suffix t) where
-  pub seam_absolute : t.origin ≡ Absolute → Seamed base suffix (record { cut = h.end; slash = false; from = t.end })
+module _ (base suffix : List ℕ) (h t : Head) (suffix-valid : is_path_text suffix ≡ true) (head : HeadOf base h) (tail : HeadOf suffix t) where
+  pub seam_absolute : t.origin ≡ Absolute → take h.end base ++ drop t.end suffix ≡ shown (join_path (path_of base) (path_of suffix))
   unfolding shown
   seam_absolute e =
       let p = path_of base in
       let q = path_of suffix in
-      record {
-        cut_within = head.within;
-        from_within = tail.within;
-        joins =
-            ap (λ x. x ++ drop t.end suffix) head.front
-            ∙ (ap (λ x. shown_origin p.origin ++ x) tail.back ∙ sym (ap (λ o. shown (joined_from p o q.components)) (kind_absolute q.origin (sym e ∙ tail.kind))));
-      }
+      ap (λ x. x ++ drop t.end suffix) head.front
+      ∙ (ap (λ x. shown_origin p.origin ++ x) tail.back ∙ sym (ap (λ o. shown (joined_from p o q.components)) (kind_absolute q.origin (sym e ∙ tail.kind))))
 
-  pub seam_relative : (n cut : ℕ) → t.origin ≡ Relative n → cut ≤ length base
-      → take cut base ≡ shown_origin (path_of base).origin ++ led (codes "::") (without_last_names n (path_of base).components) → Seamed base suffix (record { cut = cut; slash = false; from = t.end })
+  pub seam_relative : (n cut : ℕ) → t.origin ≡ Relative n → take cut base ≡ shown_origin (path_of base).origin ++ led (codes "::") (without_last_names n (path_of base).components)
+      → take cut base ++ drop t.end suffix ≡ shown (join_path (path_of base) (path_of suffix))
   unfolding shown
-  seam_relative n cut e l f =
+  seam_relative n cut e f =
       let p = path_of base in
       let q = path_of suffix in
       let kept = without_last_names n p.components in
-      record {
-        cut_within = l;
-        from_within = tail.within;
-        joins =
-            ap (λ x. x ++ drop t.end suffix) f
-            ∙ (append_assoc (shown_origin p.origin) (led (codes "::") kept) (drop t.end suffix)
-            ∙ (ap (λ x. shown_origin p.origin ++ (led (codes "::") kept ++ x)) tail.back
-            ∙ (ap (λ x. shown_origin p.origin ++ x) (sym (led_append (codes "::") kept q.components))
-            ∙ sym (ap (λ o. shown (joined_from p o q.components)) (kind_relative q.origin n (sym e ∙ tail.kind))))));
-      }
+      ap (λ x. x ++ drop t.end suffix) f
+      ∙ (append_assoc (shown_origin p.origin) (led (codes "::") kept) (drop t.end suffix)
+      ∙ (ap (λ x. shown_origin p.origin ++ (led (codes "::") kept ++ x)) tail.back
+      ∙ (ap (λ x. shown_origin p.origin ++ x) (sym (led_append (codes "::") kept q.components))
+      ∙ sym (ap (λ o. shown (joined_from p o q.components)) (kind_relative q.origin n (sym e ∙ tail.kind))))))
 
-  pub seam_package : (n : ℕ) → t.origin ≡ Package n → Seamed base suffix (in_package h.origin h.end)
-  unfolding PackageJoins shown
+  pub seam_package : (n : ℕ) → t.origin ≡ Package n → in_package h.origin (take h.end base) suffix ≡ shown (join_path (path_of base) (path_of suffix))
+  unfolding shown
   seam_package n e =
       let p = path_of base in
       let q = path_of suffix in
       let k = kind_package q.origin n (sym e ∙ tail.kind) in
       let whole : suffix ≡ shown_origin (packaged k.0 k.1) ++ led (codes "::") q.components =
       sym (path_from_test suffix suffix-valid).1 ∙ ap (λ o. shown_origin o ++ led (codes "::") q.components) k.2 in
-      let j = package_joins base suffix k.0 k.1 q.components h.end head.within whole p.origin head.front in
-      let s = subst (λ o. PackageJoins base suffix (in_package o h.end) (record { origin = within p.origin k.0 k.1; components = q.components })) (sym head.kind) j in
-      record { cut_within = s.0; from_within = s.1; joins = s.2 ∙ sym (ap (λ o. shown (joined_from p o q.components)) k.2) }
+      ap (λ o. in_package o (take h.end base) suffix) head.kind
+      ∙ (in_package_shown (take h.end base) suffix k.0 k.1 q.components whole p.origin head.front
+      ∙ sym (ap (λ o. shown (joined_from p o q.components)) k.2))
 
 -- joined paths are plain where both were
 within_plain : (o : Origin) (part : List ℕ) (more : List (List ℕ)) → PlainOrigin o → Plain part → AllByRecursion Plain more → PlainOrigin (within o part more)
@@ -197,12 +187,9 @@ join_plain p absolute cs hp hc ho h = (hp, h)
 join_plain p (relative n) cs hp hc ho h = (hp, All-append Plain (without_last_names n p.components) cs (All-take Plain (length p.components - n) p.components hc) h)
 join_plain p (packaged part more) cs hp hc ho h = (within_plain p.origin part more hp ho.0 ho.1, h)
 
-pub sewn_made : (base suffix : ModulePath) (s : Seam) (a b d : List ℕ) → Seamed (path_text base) (path_text suffix) s → a ≡ path_text base → b ≡ path_text suffix
-    → d ≡ cond s.slash (codes "/") [] → Made (join_path (path_value base) (path_value suffix)) (take (s.cut - 0) a ++ (d ++ take (length b - s.from) (drop s.from b)))
-sewn_made base suffix s a b d seamed e f g =
+pub sewn_made : (base suffix : ModulePath) (bs : List ℕ) → bs ≡ shown (join_path (path_value base) (path_value suffix)) → Made (join_path (path_value base) (path_value suffix)) bs
+sewn_made base suffix bs e =
     let p = (path_from_test (path_text base) base.valid).0 in
     let q = (path_from_test (path_text suffix) suffix.valid).0 in
     let j = join_plain (path_value base) (path_value suffix).origin (path_value suffix).components p.origin p.components q.origin q.components in
-    let front : take (s.cut - 0) a ≡ take s.cut (path_text base) = simp sub-zero (ap (take s.cut) e) in
-    let back : take (length b - s.from) (drop s.from b) ≡ drop s.from (path_text suffix) = take_rest b s.from ∙ ap (drop s.from) f in
-    record { origin = j.0; components = j.1; text = (let k = seamed.joins in cc) }
+    record { origin = j.0; components = j.1; text = e }

@@ -4,4 +4,3 @@ pub mod OriginFacts
 pub mod PassedFacts
 pub mod ComponentFacts
 pub mod JoinFacts
-pub mod Fronts

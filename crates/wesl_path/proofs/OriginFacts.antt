@@ -1,5 +1,5 @@
 -- The origin of a path is told by its first word and by the words that follow.
-use Rattle.std.proofs.Common.{◌≡◌, ℕ, zero, suc, ◌+◌, ◌-◌, ◌<◌, ◌≤◌, true, false, List, [], ◌∷◌, ◌++◌, length, take, drop, replicate, codes, sym, refl, ap, ◌∙◌, subst, one-add, arith}
+use Rattle.std.proofs.Common.{◌≡◌, ℕ, zero, suc, ◌+◌, ◌<◌, ◌≤◌, true, false, List, [], ◌∷◌, ◌++◌, length, take, drop, replicate, codes, sym, refl, ap, ◌∙◌, subst, one-add, arith}
 use Rattle.std.specs.List.{AllByRecursion}
 use Rattle.std.specs.Str.{bytes_eq}
 use Rattle.std.proofs.lemmas.List.{append_assoc, append_cancel_left, length-replicate, drop_at}
@@ -141,27 +141,24 @@ headed_at text h o ho k f a b l only =
     }
 
 module _ (text : List ℕ) (n : ℕ) (long : n ≡ 0 + length (first_word text)) where
-  word_is : (w : List ℕ) → bytes_eq (take (n - 0) text) w ≡ true → first_word text ≡ w
-  word_is w e = sym (first_taken text n long) ∙ (bytes_eq-Decides (take (n - 0) text) w).0 e
+  word_is : (w : List ℕ) → bytes_eq (take n text) w ≡ true → first_word text ≡ w
+  word_is w e = sym (first_taken text n long) ∙ (bytes_eq-Decides (take n text) w).0 e
 
-  left_edge : Boundary (drop n text)
-  left_edge = subst Boundary (sym (text_left text n long)) (after_edge text)
+  pub head_edge : Boundary (drop n text)
+  head_edge = subst Boundary (sym (text_left text n long)) (after_edge text)
 
   end_within : n ≤ length text
   end_within = let k = word_within text in omega (arith, k)
 
-  pub head_edge : (n ≤ length text) × Boundary (drop n text)
-  head_edge = (end_within, left_edge)
-
-  pub headed_package : bytes_eq (take (n - 0) text) (codes "package") ≡ true → Headed text (record { origin = Absolute; end = n })
+  pub headed_package : bytes_eq (take n text) (codes "package") ≡ true → Headed text (record { origin = Absolute; end = n })
   headed_package e =
-      headed_at text (record { origin = Absolute; end = n }) absolute tt refl (word_is _ e) (sym (text_left text n long)) left_edge end_within (only_absolute _)
+      headed_at text (record { origin = Absolute; end = n }) absolute tt refl (word_is _ e) (sym (text_left text n long)) head_edge end_within (only_absolute _)
 
-  pub headed_self : bytes_eq (take (n - 0) text) (codes "self") ≡ true → Headed text (record { origin = Relative 0; end = n })
+  pub headed_self : bytes_eq (take n text) (codes "self") ≡ true → Headed text (record { origin = Relative 0; end = n })
   headed_self e =
-      headed_at text (record { origin = Relative 0; end = n }) (relative zero) tt refl (word_is _ e) (sym (text_left text n long)) left_edge end_within (only_self _)
+      headed_at text (record { origin = Relative 0; end = n }) (relative zero) tt refl (word_is _ e) (sym (text_left text n long)) head_edge end_within (only_self _)
 
-  pub headed_super : bytes_eq (take (n - 0) text) (codes "super") ≡ true → (most count end : ℕ) → count < most → Passing Super most text n count end
+  pub headed_super : bytes_eq (take n text) (codes "super") ≡ true → (most count end : ℕ) → count < most → Passing Super most text n count end
       → Headed text (record { origin = Relative (1 + count); end = end })
   headed_super e most count end few p =
       let s = supers_are p.ws p.fits in
@@ -174,7 +171,7 @@ module _ (text : List ℕ) (n : ℕ) (long : n ≡ 0 + length (first_word text))
       supers_are [] h = refl
       supers_are (w ∷ ws) h = let a = (bytes_eq-Decides w (codes "super")).0 h.0 in let b = supers_are ws h.1 in cc
 
-  pub headed_parts : plain (take (n - 0) text) ≡ true → (most count end : ℕ) → count < most → Passing Part most text n count end
+  pub headed_parts : plain (take n text) ≡ true → (most count end : ℕ) → count < most → Passing Part most text n count end
       → Headed text (record { origin = Package (1 + count); end = end })
   headed_parts e most count end few p =
       let w = first_word text in
@@ -182,12 +179,12 @@ module _ (text : List ℕ) (n : ℕ) (long : n ≡ 0 + length (first_word text))
       headed_at text (record { origin = Package (1 + count); end = end }) (packaged w p.ws) (hp, p.fits) (ap (λ x. Package (1 + x)) p.many) refl
       (sym (text_left text n long) ∙ p.reads) p.edge p.within (only_parts w p.ws (drop end text) hp p.fits p.edge (p.stops few))
 
-  pub headless_at : bytes_eq (take (n - 0) text) (codes "package") ≡ false → bytes_eq (take (n - 0) text) (codes "self") ≡ false
-      → bytes_eq (take (n - 0) text) (codes "super") ≡ false → plain (take (n - 0) text) ≡ false → Headless text
+  pub headless_at : bytes_eq (take n text) (codes "package") ≡ false → bytes_eq (take n text) (codes "self") ≡ false
+      → bytes_eq (take n text) (codes "super") ≡ false → plain (take n text) ≡ false → Headless text
   headless_at a b d e p hp hc k = no_origin p.origin hp (first_taken text n long ∙ (ap first_word k ∙ shown_first p hp))
     where
-      no_origin : (o : Origin) → PlainOrigin o → take (n - 0) text ≡ first_of o → ⊥
+      no_origin : (o : Origin) → PlainOrigin o → take n text ≡ first_of o → ⊥
       no_origin absolute h f = free_not _ _ a f
       no_origin (relative zero) h f = free_not _ _ b f
       no_origin (relative (suc m)) h f = free_not _ _ d f
-      no_origin (packaged part more) h f = both_ways (plain (take (n - 0) text)) e (ap plain f ∙ h.0)
+      no_origin (packaged part more) h f = both_ways (plain (take n text)) e (ap plain f ∙ h.0)

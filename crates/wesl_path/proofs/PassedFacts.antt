@@ -1,5 +1,5 @@
 -- The components that are passed after a path's origin are the path's.
-use Rattle.std.proofs.Common.{◌≡◌, ℕ, ◌-◌, ◌<◌, ◌≤◌, Bool, true, eqb, List, [], ◌++◌, length, take, drop, codes, Decides, sym, ap, ◌∙◌, subst, arith}
+use Rattle.std.proofs.Common.{◌≡◌, ℕ, ◌-◌, ◌<◌, ◌≤◌, Bool, true, eqb, List, [], ◌++◌, length, take, drop, Option, Some, None, MatchOption, codes, Decides, sym, refl, ap, ◌∙◌, subst, arith}
 use Rattle.std.specs.List.{AllByRecursion}
 use Rattle.std.proofs.lemmas.List.{append-nil, length-append, length-drop, take_at, drop_all}
 use Rattle.std.specs.Str.{bytes_eq}
@@ -71,6 +71,11 @@ own_head text h valid headed =
 
 pub not_headless : (text : List ℕ) → is_path_text text ≡ true → Headless text → ⊥
 not_headless text valid none = let t = path_from_test text valid in none (path_of text) t.0.origin t.0.components (sym t.1)
+
+-- so a path's origin is found
+pub head_found : (text : List ℕ) (r : Option Head) → is_path_text text ≡ true → MatchOption r (Headless text) (λ h. Headed text h) → (h : Head) × (r ≡ Some h) × HeadOf text h
+head_found text None valid m = absurd (not_headless text valid m)
+head_found text (Some h) valid m = (h, refl, own_head text h valid m)
 
 -- the components after a path's own head, counted or cut
 module _ (text : List ℕ) (h : Head) (valid : is_path_text text ≡ true) (head : HeadOf text h) (most count end : ℕ) (passing : Passing Component most text h.end count end) where

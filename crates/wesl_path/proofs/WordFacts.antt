@@ -1,10 +1,12 @@
 -- Words: where they end, and that there is one way to read words that follow one another.
-use Rattle.std.proofs.Common.{◌≡◌, ℕ, ◌+◌, ◌-◌, ◌<◌, ◌≤◌, true, false, cond, leb, List, [], ◌∷◌, ◌++◌, length, get_or, take, drop, codes, sym, refl, ap, ◌∙◌, subst, inl, inr, one-add, arith, lit<}
-use Rattle.std.specs.List.{AllByRecursion}
+use Rattle.std.proofs.Common.{◌≡◌, ℕ, ◌+◌, ◌-◌, ◌<◌, ◌≤◌, true, false, leb, ◌&&◌, List, [], ◌∷◌, ◌++◌, length, take, drop, codes, sym, refl, ap, ◌∙◌, subst, inl, inr, one-add, arith, lit<}
+use Rattle.std.specs.List.{AllByRecursion, list_all, position, position_or_len}
+use Rattle.std.specs.Option.{unwrap_or}
 use Rattle.std.specs.Str.{bytes_eq}
-use Rattle.std.proofs.lemmas.List.{append_assoc, append-nil, length_push, append_cancel_left, at_drop_more, at_drop_all, take-append-drop, take_at, drop_at, drop-drop, length-drop, length-append}
+use Rattle.std.proofs.lemmas.List.{append_assoc, append-nil, length_push, append_cancel_left, take-append-drop, take_at, take_rest, drop_at, drop-drop, length-drop, length-append}
+use Rattle.std.proofs.lemmas.List.Recursion.{is_position_or_len}
 use Rattle.std.proofs.ByRecursion.{All-drop, All-push}
-use Rattle.std.proofs.lemmas.Bool.{and_parts, leb-true, cases_Bool, not-true, both_ways}
+use Rattle.std.proofs.lemmas.Bool.{and_parts, leb-true, cases_Bool, cases_lt, lt-ltb, le-ltb, not-true, both_ways}
 use Rattle.std.proofs.lemmas.Bool.Decides.{nat_tests}
 use Rattle.std.proofs.lemmas.Slice.Eq.{bytes_eq-Decides}
 use Rattle.wesl_path.specs.Name.{digit, letter, word_byte, word_bytes, starts_well_text, reserved, plain, Plain}
@@ -40,19 +42,20 @@ after_is [] [] h k = refl
 after_is [] (b ∷ bs) h k = rw k
 after_is (a ∷ w) rest h k = let e = h.0 in rw e (after_is w rest h.1 k)
 
--- the word's length, for a loop that goes on byte by byte
-pub word_length_more : (bs : List ℕ) (i : ℕ) → i < length bs → parts_words (get_or bs i 0) ≡ false → length (first_word (drop i bs)) ≡ 1 + length (first_word (drop (i + 1) bs))
-word_length_more bs i h e =
-    let m : first_word (drop i bs) ≡ cond (parts_words (get_or bs i 0)) [] (get_or bs i 0 ∷ first_word (drop (i + 1) bs)) = at_drop_more first_word bs i 0 h in
-    rw m (rw e (sym (one-add _)))
+pub word_within : (bs : List ℕ) → length (first_word bs) ≤ length bs
+word_within bs = let e = ap length (word_parts bs) in omega (arith, simp length-append at e)
 
-pub word_length_end : (bs : List ℕ) (i : ℕ) → i < length bs → parts_words (get_or bs i 0) ≡ true → length (first_word (drop i bs)) ≡ 0
-word_length_end bs i h e =
-    let m : first_word (drop i bs) ≡ cond (parts_words (get_or bs i 0)) [] (get_or bs i 0 ∷ first_word (drop (i + 1) bs)) = at_drop_more first_word bs i 0 h in
-    rw m (rw e)
-
-pub word_length_none : (bs : List ℕ) (i : ℕ) → length bs ≤ i → length (first_word (drop i bs)) ≡ 0
-word_length_none bs i h = ap length (at_drop_all first_word bs i h)
+-- the first word ends at the first byte that parts words
+pub first_word_length : (bs : List ℕ) → unwrap_or (position parts_words bs) (length bs) ≡ length (first_word bs)
+first_word_length bs =
+    let at = position_or_len parts_words bs in
+    let e : length (first_word bs) ≡ at =
+    is_position_or_len (λ bs. length (first_word bs)) parts_words refl (λ b bs. elim (cases_Bool (parts_words b)) [ inl e ↦ rw e | inr e ↦ rw e (sym (one-add _)) ]) bs in
+    let l = word_within bs in
+    elim (cases_lt at (length bs)) [
+      | inl h ↦ (let k = lt-ltb at (length bs) h in rw k (sym e))
+      | inr h ↦ (let k = le-ltb at (length bs) h in rw k (omega arith))
+    ]
 
 -- a word of any kind has no byte that parts words, and is not empty
 word_byte_inner : (b : ℕ) → word_byte b ≡ true → parts_words b ≡ false
@@ -62,6 +65,10 @@ word_byte_inner b e = grind (arith, nat_tests)
 word_bytes_inner : (w : List ℕ) → word_bytes w ≡ true → Inner w
 word_bytes_inner [] e = tt
 word_bytes_inner (b ∷ w) e = let p = and_parts (word_byte b) (word_bytes w) e in (word_byte_inner b p.0, word_bytes_inner w p.1)
+
+pub word_bytes_all : (w : List ℕ) → word_bytes w ≡ list_all word_byte w
+word_bytes_all [] = refl
+word_bytes_all (b ∷ w) = ap (λ t. word_byte b && t) (word_bytes_all w)
 
 pub plain_word_bytes : (w : List ℕ) → Plain w → word_bytes w ≡ true
 unfolding plain
@@ -138,22 +145,27 @@ led_all s ws cs rest tail ht stop hc p =
     let whole = take-append-drop (length ws) cs in
     (p.same ∙ (sym (append-nil (take (length ws) cs)) ∙ (ap (λ x. take (length ws) cs ++ x) (sym n.0) ∙ whole)), n.1)
 
-pub word_within : (bs : List ℕ) → length (first_word bs) ≤ length bs
-word_within bs = let e = ap length (word_parts bs) in omega (arith, simp length-append at e)
-
 lead_long : (s : Step) → 0 < length (lead_of s)
 lead_long Part = lit< tt
 lead_long Super = lit< tt
 lead_long Component = lit< tt
 
-pub first_taken : (bs : List ℕ) (n : ℕ) → n ≡ 0 + length (first_word bs) → take (n - 0) bs ≡ first_word bs
+pub first_taken : (bs : List ℕ) (n : ℕ) → n ≡ 0 + length (first_word bs) → take n bs ≡ first_word bs
 first_taken bs n e =
-    let k : length (first_word bs) ≡ n - 0 = omega (arith, e) in
-    ap (take (n - 0)) (sym (word_parts bs)) ∙ take_at (first_word bs) (after_word bs) (n - 0) k
+    let k : length (first_word bs) ≡ n = omega (arith, e) in
+    ap (take n) (sym (word_parts bs)) ∙ take_at (first_word bs) (after_word bs) n k
+
+-- a text that begins with a lead, read from `at` on
+pub after_lead : (text lead rest : List ℕ) (at : ℕ) → bytes_eq (take (length lead) (take (length text - at) (drop at text))) lead ≡ true
+    → rest ≡ drop (length lead) (take (length text - at) (drop at text)) → drop at text ≡ lead ++ rest
+after_lead text lead rest at e f =
+    let s = take (length text - at) (drop at text) in
+    let p = (bytes_eq-Decides (take (length lead) s) lead).0 e in
+    sym (take_rest text at) ∙ sym (take-append-drop (length lead) s) ∙ cc
 
 -- the word after a lead, found by its end in what follows the lead
 pub led_word_at : (s : Step) (text : List ℕ) (at : ℕ) (rest : List ℕ) (n : ℕ) → at ≤ length text → drop at text ≡ lead_of s ++ rest → n ≡ 0 + length (first_word rest)
-    → fitting s (take (n - 0) rest) ≡ true → LedWord s text at ((length text - length rest) + n)
+    → fitting s (take n rest) ≡ true → LedWord s text at ((length text - length rest) + n)
 led_word_at s text at rest n h e l f =
     let w = first_word rest in
     let front : drop at text ≡ (lead_of s ++ w) ++ after_word rest = e ∙ (ap (λ x. lead_of s ++ x) (sym (word_parts rest)) ∙ sym (append_assoc (lead_of s) w (after_word rest))) in
@@ -173,26 +185,18 @@ led_word_at s text at rest n h e l f =
     }
 
 pub led_word_other : (s : Step) (text : List ℕ) (at : ℕ) (rest : List ℕ) (n : ℕ) → drop at text ≡ lead_of s ++ rest → n ≡ 0 + length (first_word rest)
-    → fitting s (take (n - 0) rest) ≡ false → NotLed s (drop at text)
+    → fitting s (take n rest) ≡ false → NotLed s (drop at text)
 led_word_other s text at rest n e l f w more hw hb k =
     let same : rest ≡ w ++ more = append_cancel_left (lead_of s) rest (w ++ more) (sym e ∙ k) in
     let word : first_word rest ≡ w = ap first_word same ∙ first_is w more (fits_inner s w hw) hb in
     both_ways (fitting s w) (ap (fitting s) (sym (first_taken rest n l ∙ word)) ∙ f) hw
-
-pub rest_within : (text front rest : List ℕ) (at : ℕ) → drop at text ≡ front ++ rest → length rest ≤ length text
-rest_within text front rest at e = let k : length text - at ≡ length front + length rest = sym (length-drop at text) ∙ (ap length e ∙ length-append front rest) in omega arith
 
 led_push : (s : Step) (ws : List (List ℕ)) (w rest : List ℕ) → led (lead_of s) ws ++ (lead_of s ++ (w ++ rest)) ≡ led (lead_of s) (ws ++ w ∷ []) ++ rest
 led_push s [] w rest = simp (append_assoc, append-nil)
 led_push s (v ∷ ws) w rest =
     append_assoc (lead_of s ++ v) (led (lead_of s) ws) _ ∙ (ap (λ x. (lead_of s ++ v) ++ x) (led_push s ws w rest) ∙ sym (append_assoc (lead_of s ++ v) _ rest))
 
--- Passing words one after another: none yet, one more, and the two ways to stop.
-
-pub pass_none : (s : Step) (text : List ℕ) (at : ℕ) → at ≤ length text → Boundary (drop at text) → Passing s 0 text at 0 at
-pass_none s text at h b =
-    record { ws = []; fits = tt; many = refl; few = omega arith; reads = refl; edge = b; stops = λ l. absurd (omega arith); ahead = omega arith; within = h }
-
+-- one word more that was passed
 pub pass_more : (s : Step) (text : List ℕ) (at n end next : ℕ) → Passing s n text at n end → LedWord s text end next → Passing s (n + 1) text at (n + 1) next
 pass_more s text at n end next p w =
     record {
@@ -206,7 +210,3 @@ pass_more s text at n end next p w =
       ahead = (let a = p.ahead in let b = w.ahead in omega arith);
       within = w.within;
     }
-
-pub pass_stops : (s : Step) (text : List ℕ) (at n most end : ℕ) → Passing s n text at n end → n ≤ most → (n < most → NotLed s (drop end text)) → Passing s most text at n end
-pass_stops s text at n most end p h stop =
-    record { ws = p.ws; fits = p.fits; many = p.many; few = h; reads = p.reads; edge = p.edge; stops = stop; ahead = p.ahead; within = p.within }

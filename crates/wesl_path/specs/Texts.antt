@@ -1,5 +1,6 @@
 -- What the types that keep a path, components or a name hold.
-use Rattle.std.specs.Prelude.{◌≡◌, ℕ, Bool, true, List, take, Decides}
+use Rattle.std.specs.Prelude.{◌≡◌, ℕ, Bool, true, List, Decides}
+use Rattle.wesl_path.specs.Inline.{held}
 use Rattle.wesl_path.specs.Path.{Path, path_of, words}
 use Rattle.wesl_path.specs.declared.module_path.ModulePath.{ModulePath}
 use Rattle.wesl_path.specs.declared.components.Components.{Components}
@@ -7,18 +8,18 @@ use Rattle.wesl_path.specs.declared.name.PlainName.{PlainName}
 
 -- a path's bytes, and the path that they are
 abbrev pub path_text : ModulePath → List ℕ
-path_text m = take m.len m.bytes
+path_text m = held m.text
 
 abbrev pub path_value : ModulePath → Path
 path_value m = path_of (path_text m)
 
 -- a name's bytes
 abbrev pub name_text : PlainName → List ℕ
-name_text n = take n.len n.bytes
+name_text n = held n.text
 
 -- the bytes of components, and the names that they are
 abbrev pub components_text : Components → List ℕ
-components_text cs = take cs.len cs.bytes
+components_text cs = held cs.text
 
 abbrev pub components_value : Components → List (List ℕ)
 components_value cs = words (components_text cs)

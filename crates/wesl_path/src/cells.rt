@@ -1,18 +1,11 @@
 //! Writing into a lent buffer.
 ghost use Rattle.std.specs.Prelude.{◌≡◌, ◌+◌, ◌≤◌, ◌++◌, length, take, drop};
 
-fn copy_at(out: &mut [u8], at: usize, bytes: &[u8])
-    requires { at + length bytes.now ≤ length out.old }
-    ensures { out.new ≡ take at out.old ++ (bytes.now ++ drop (at + length bytes.now) out.old) }
-{
-    let end = at + bytes.len();
-    out[at..end].copy_from_slice(bytes);
-}
-
 /// Writes `bytes` into `out` from `at` on, where there is room for them.
 pub fn put(out: &mut [u8], at: usize, bytes: &[u8])
     requires { at + length bytes.now ≤ length out.old }
     ensures { out.new ≡ take at out.old ++ (bytes.now ++ drop (at + length bytes.now) out.old) }
 {
-    copy_at(out, at, bytes);
+    let end = at + bytes.len();
+    out[at..end].copy_from_slice(bytes);
 }

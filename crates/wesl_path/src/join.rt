@@ -1,9 +1,9 @@
 //! Paths made of paths: appended components, and a path read from a module.
-ghost use Rattle.std.specs.Prelude.{◌≡◌, ◌≤◌, true, false, [], ◌∷◌, ◌++◌, length, take, if◌then◌else◌, codes};
-ghost use Rattle.wesl_path.specs.Path.{path_of, is_path_text, shown_origin, led, without_last_names, join_path, extended};
+ghost use Rattle.std.specs.Prelude.{◌≡◌, ◌≤◌, true, [], ◌∷◌, ◌++◌, length, take, codes};
+ghost use Rattle.wesl_path.specs.Path.{path_of, is_path_text, shown, shown_origin, led, without_last_names, join_path, extended};
 ghost use Rattle.wesl_path.specs.Heads.{HeadOf};
 ghost use Rattle.wesl_path.specs.Texts.{path_text, path_value, components_value, name_text};
-ghost use Rattle.wesl_path.specs.Joins.{Given, Joined, Pushed, Seamed, in_package};
+ghost use Rattle.wesl_path.specs.Joins.{Given, Joined, Pushed, in_package};
 
 use crate::components::Components;
 use crate::fault::PathFault;
@@ -13,12 +13,12 @@ use crate::name::PlainName;
 use crate::origin::{Head, PathOrigin};
 use crate::words::{Step, pass};
 
-/// How two paths are put together: the front of the one up to `cut`, a slash or none, and the other from `from` on.
+/// How two paths are put together: a front of the one, a slash or nothing, and a back of the other.
 #[derive(Clone, Copy)]
-struct Seam {
-    cut: usize,
-    slash: bool,
-    from: usize,
+struct Seam<'a> {
+    front: &'a [u8],
+    separator: &'static [u8],
+    back: &'a [u8],
 }
 
 /// Where a path ends without its last `n` components.
@@ -33,79 +33,53 @@ fn without_last(text: &[u8], head: Head, n: usize) -> usize
 }
 
 /// A package read from inside another is one part further down.
-fn package_seam(head: Head) -> Seam
-    ensures { result ≡ in_package head.origin head.end }
+fn package_seam<'a>(base: &'a [u8], head: Head, suffix: &'a [u8]) -> Seam<'a>
+    requires { head.end ≤ length base.now }
+    ensures { result.front.now ++ (result.separator.now ++ result.back.now) ≡ in_package head.origin (take head.end base.now) suffix.now }
 {
     match head.origin {
         PathOrigin::Package(_) => Seam {
-            cut: head.end,
-            slash: true,
-            from: 0,
+            front: &base[..head.end],
+            separator: b"/",
+            back: suffix,
         },
         PathOrigin::Absolute | PathOrigin::Relative(_) => Seam {
-            cut: 0,
-            slash: false,
-            from: 0,
+            front: b"",
+            separator: b"",
+            back: suffix,
         },
     }
 }
 
 /// Where a module's path and a path read from that module are put together.
-fn find_seam(base: &ModulePath, suffix: &ModulePath) -> Seam
-    ensures { Seamed (path_text base.now) (path_text suffix.now) result }
+fn find_seam<'a>(base: &'a ModulePath, suffix: &'a ModulePath) -> Seam<'a>
+    ensures { result.front.now ++ (result.separator.now ++ result.back.now) ≡ shown (join_path (path_value base.now) (path_value suffix.now)) }
 {
+    let front = base.as_bytes();
+    let back = suffix.as_bytes();
     let head = base.head();
     let tail = suffix.head();
     match tail.origin {
         PathOrigin::Absolute => Seam {
-            cut: head.end,
-            slash: false,
-            from: tail.end,
+            front: &front[..head.end],
+            separator: b"",
+            back: &back[tail.end..],
         },
         PathOrigin::Relative(n) => Seam {
-            cut: without_last(base.as_bytes(), head, n),
-            slash: false,
-            from: tail.end,
+            front: &front[..without_last(front, head, n)],
+            separator: b"",
+            back: &back[tail.end..],
         },
-        PathOrigin::Package(_) => package_seam(head),
+        PathOrigin::Package(_) => package_seam(front, head, back),
     }
-}
-
-fn separator(slash: bool) -> &'static [u8]
-    ensures { result.now ≡ (if slash then codes "/" else []) }
-{
-    if slash { b"/" } else { b"" }
 }
 
 /// The two paths put together, unless the path would pass 255 bytes.
 fn sewn(base: &ModulePath, suffix: &ModulePath) -> Result<ModulePath, PathFault>
     ensures { Given (join_path (path_value base.now) (path_value suffix.now)) result }
 {
-    let front = base.as_bytes();
-    let back = suffix.as_bytes();
-    let Seam { cut, slash, from } = find_seam(base, suffix);
-    match written(&front[0..cut], separator(slash), &back[from..]) {
-        Some(path) => Ok(path),
-        None => Err(PathFault::Long),
-    }
-}
-
-fn lengthened(path: &ModulePath, suffix: &Components) -> Result<ModulePath, PathFault>
-    ensures { Given (extended (path_value path.now) (components_value suffix.now)) result }
-{
-    match written(path.as_bytes(), b"::", suffix.as_bytes()) {
-        Some(path) => Ok(path),
-        None => Err(PathFault::Long),
-    }
-}
-
-fn with_item(path: &ModulePath, item: &PlainName) -> Result<ModulePath, PathFault>
-    ensures { Given (extended (path_value path.now) (name_text item.now ∷ [])) result }
-{
-    match written(path.as_bytes(), b"::", item.as_bytes()) {
-        Some(path) => Ok(path),
-        None => Err(PathFault::Long),
-    }
+    let seam = find_seam(base, suffix);
+    written(seam.front, seam.separator, seam.back)
 }
 
 impl ModulePath {
@@ -113,14 +87,14 @@ impl ModulePath {
     pub fn join(&self, suffix: &Components) -> Result<ModulePath, PathFault>
         ensures { Given (extended (path_value self.now) (components_value suffix.now)) result }
     {
-        lengthened(self, suffix)
+        written(self.as_bytes(), b"::", suffix.as_bytes())
     }
 
     /// Appends a component, unless the path would pass 255 bytes.
     pub fn push(&mut self, item: &PlainName) -> Result<(), PathFault>
         ensures { Pushed (extended (path_value self.old) (name_text item.now ∷ [])) self.old self.new result }
     {
-        *self = with_item(self, item)?;
+        *self = written(self.as_bytes(), b"::", item.as_bytes())?;
         Ok(())
     }
 

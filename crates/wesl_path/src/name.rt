@@ -1,15 +1,16 @@
 //! A plain name, kept in its type.
-ghost use Rattle.std.specs.Prelude.{◌≡◌, ◌≤◌, true, take};
+ghost use Rattle.std.specs.Prelude.{◌≡◌, true};
+ghost use Rattle.wesl_path.specs.Inline.{held};
 ghost use Rattle.wesl_path.specs.Name.{plain};
 
 pub mod test;
+
+use crate::inline::InlineBytes;
 
 /// A name that may stand as a component, a package part or an item: 1 to 64 ASCII letters, digits and underscores,
 /// no digit first, and none of `package`, `self`, `super` and `import`.
 #[derive(Clone, Copy)]
 pub struct PlainName {
-    bytes: [u8; 64],
-    len: usize,
-    ghost within: { len ≤ 64 },
-    ghost ok: { plain (take len bytes) ≡ true },
+    text: InlineBytes<64>,
+    ghost ok: { plain (held text) ≡ true },
 }

@@ -6,7 +6,7 @@ use crate::name::test::{is_plain, same_bytes};
 use crate::words::{Step, pass, word_end};
 
 /// Where a path starts.
-#[derive(Clone, Copy)]
+#[derive(Clone, Copy, Debug, PartialEq, Eq)]
 pub enum PathOrigin {
     /// `package`: the root of the package that the module is in
     Absolute,
@@ -17,7 +17,7 @@ pub enum PathOrigin {
 }
 
 /// The origin of a path, and where its bytes end.
-#[derive(Clone, Copy)]
+#[derive(Clone, Copy, Debug, PartialEq, Eq)]
 pub struct Head {
     pub origin: PathOrigin,
     pub end: usize,
@@ -28,32 +28,19 @@ pub(crate) fn read_origin(text: &[u8]) -> Option<Head>
     ensures { MatchOption result (Headless text.now) (λ h. Headed text.now h) }
 {
     let end = word_end(text, 0);
-    let first = &text[0..end];
-    if same_bytes(first, b"package") {
-        return Some(Head {
-            origin: PathOrigin::Absolute,
-            end,
-        });
-    }
-    if same_bytes(first, b"self") {
-        return Some(Head {
-            origin: PathOrigin::Relative(0),
-            end,
-        });
-    }
-    if same_bytes(first, b"super") {
+    let first = &text[..end];
+    let (origin, end) = if same_bytes(first, b"package") {
+        (PathOrigin::Absolute, end)
+    } else if same_bytes(first, b"self") {
+        (PathOrigin::Relative(0), end)
+    } else if same_bytes(first, b"super") {
         let more = pass(text, end, Step::Super, usize::MAX);
-        return Some(Head {
-            origin: PathOrigin::Relative(1 + more.count),
-            end: more.end,
-        });
-    }
-    if !is_plain(first) {
+        (PathOrigin::Relative(1 + more.count), more.end)
+    } else if is_plain(first) {
+        let more = pass(text, end, Step::Part, usize::MAX);
+        (PathOrigin::Package(1 + more.count), more.end)
+    } else {
         return None;
-    }
-    let more = pass(text, end, Step::Part, usize::MAX);
-    Some(Head {
-        origin: PathOrigin::Package(1 + more.count),
-        end: more.end,
-    })
+    };
+    Some(Head { origin, end })
 }

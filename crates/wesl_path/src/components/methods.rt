@@ -1,11 +1,11 @@
 //! Reading and printing components.
-ghost use Rattle.std.specs.Prelude.{◌≡◌, ◌≤◌, true, false, length, Decides, MatchOption, MatchResult, ◌==◌};
+ghost use Rattle.std.specs.Prelude.{◌≡◌, ◌≤◌, true, length, Decides, MatchOption, MatchResult, ◌==◌};
 ghost use Rattle.wesl_path.specs.Components.{AreComponents, are_components_text};
 ghost use Rattle.wesl_path.specs.Texts.{components_text};
 
-use crate::cells::put;
 use crate::components::Components;
 use crate::fault::PathFault;
+use crate::inline::InlineBytes;
 use crate::limits::LONGEST_PATH;
 use crate::name::test::is_plain;
 use crate::words::{Step, pass, word_end};
@@ -15,7 +15,7 @@ fn names_end(text: &[u8]) -> Option<usize>
     ensures { MatchOption result (AreComponents text.now → ⊥) (λ end. length text.now ≤ 255 → Decides (end == length text.now) (AreComponents text.now)) }
 {
     let end = word_end(text, 0);
-    if !is_plain(&text[0..end]) {
+    if !is_plain(&text[..end]) {
         return None;
     }
     Some(pass(text, end, Step::Component, usize::MAX).end)
@@ -25,33 +25,21 @@ fn names_end(text: &[u8]) -> Option<usize>
 pub fn are_components(text: &[u8]) -> bool
     ensures { Decides result (AreComponents text.now) }
 {
-    match names_end(text) {
-        None => false,
-        Some(end) => text.len() <= LONGEST_PATH && end == text.len(),
-    }
-}
-
-fn kept(text: &[u8]) -> Components
-    requires { AreComponents text.now }
-    ensures { components_text result ≡ text.now }
-{
-    let mut bytes = [0u8; LONGEST_PATH];
-    put(&mut bytes, 0, text);
-    Components {
-        bytes,
-        len: text.len(),
-    }
+    text.len() <= LONGEST_PATH && names_end(text) == Some(text.len())
 }
 
 impl Components {
+    #[tactic(auto, using(crate::proofs::ComponentFacts::test_from_components))]
     /// Reads components, or refuses bytes that are none.
-    pub fn read(text: &[u8]) -> Result<Components, PathFault>
-        ensures { MatchResult result (λ m. components_text m ≡ text.now) (λ e. (e ≡ PathFault.Malformed) × (AreComponents text.now → ⊥)) }
+    pub fn read(bytes: &[u8]) -> Result<Components, PathFault>
+        ensures { MatchResult result (λ m. components_text m ≡ bytes.now) (λ e. (e ≡ PathFault.Malformed) × (AreComponents bytes.now → ⊥)) }
     {
-        if !are_components(text) {
+        if !are_components(bytes) {
             return Err(PathFault::Malformed);
         }
-        Ok(kept(text))
+        let mut text = InlineBytes::new();
+        text.push(bytes)?;
+        Ok(Components { text })
     }
 
     /// The bytes that the components are written as.
@@ -59,7 +47,6 @@ impl Components {
         ensures value { result.now ≡ components_text self.now }
         ensures valid { are_components_text result.now ≡ true }
     {
-        let len = self.len;
-        &self.bytes[0..len]
+        self.text.as_slice()
     }
 }

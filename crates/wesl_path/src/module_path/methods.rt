@@ -1,12 +1,13 @@
 //! Reading, printing and comparing module paths.
-ghost use Rattle.std.specs.Prelude.{◌≡◌, ◌+◌, ◌<◌, ◌≤◌, true, false, ◌++◌, length, Decides, MatchOption, MatchResult, ◌==◌};
+ghost use Rattle.std.specs.Prelude.{◌≡◌, ◌<◌, ◌≤◌, true, ◌++◌, length, Decides, MatchOption, MatchResult, ◌==◌};
 ghost use Rattle.wesl_path.specs.Path.{IsPath, is_path_text};
 ghost use Rattle.wesl_path.specs.Heads.{HeadOf, kind_of};
 ghost use Rattle.wesl_path.specs.Texts.{path_text, path_value, SameAnswer, Equivalence};
 ghost use Rattle.wesl_path.specs.Equality.{path_eq, path_eq_laws};
+ghost use Rattle.wesl_path.specs.declared.fault.PathFault.TheVariants.{Long};
 
-use crate::cells::put;
 use crate::fault::PathFault;
+use crate::inline::InlineBytes;
 use crate::limits::LONGEST_PATH;
 use crate::module_path::ModulePath;
 use crate::name::test::same_bytes;
@@ -17,64 +18,27 @@ use crate::words::{Step, pass};
 fn words_end(text: &[u8]) -> Option<usize>
     ensures { MatchOption result (IsPath text.now → ⊥) (λ end. length text.now ≤ 255 → Decides (end == length text.now) (IsPath text.now)) }
 {
-    match read_origin(text) {
-        None => None,
-        Some(head) => Some(pass(text, head.end, Step::Component, usize::MAX).end),
-    }
+    let head = read_origin(text)?;
+    Some(pass(text, head.end, Step::Component, usize::MAX).end)
 }
 
 /// Whether `text` is a path.
 pub fn is_path(text: &[u8]) -> bool
     ensures { Decides result (IsPath text.now) }
 {
-    match words_end(text) {
-        None => false,
-        Some(end) => text.len() <= LONGEST_PATH && end == text.len(),
-    }
+    text.len() <= LONGEST_PATH && words_end(text) == Some(text.len())
 }
 
-/// The path that is written as `front`, `sep` and `back`, where it is short enough.
-pub(crate) fn written(front: &[u8], sep: &[u8], back: &[u8]) -> Option<ModulePath>
+/// The path that is written as `front`, `sep` and `back`, unless that is too long.
+pub(crate) fn written(front: &[u8], sep: &[u8], back: &[u8]) -> Result<ModulePath, PathFault>
     requires { length (front.now ++ (sep.now ++ back.now)) ≤ 255 → is_path_text (front.now ++ (sep.now ++ back.now)) ≡ true }
-    ensures { MatchOption result (255 < length (front.now ++ (sep.now ++ back.now))) (λ m. path_text m ≡ front.now ++ (sep.now ++ back.now)) }
+    ensures { MatchResult result (λ m. path_text m ≡ front.now ++ (sep.now ++ back.now)) (λ e. (e ≡ Long) × (255 < length (front.now ++ (sep.now ++ back.now)))) }
 {
-    if front.len() > LONGEST_PATH
-        || sep.len() > LONGEST_PATH - front.len()
-        || back.len() > LONGEST_PATH - front.len() - sep.len()
-    {
-        return None;
-    }
-    let mut bytes = [0u8; LONGEST_PATH];
-    put(&mut bytes, 0, front);
-    put(&mut bytes, front.len(), sep);
-    put(&mut bytes, front.len() + sep.len(), back);
-    Some(ModulePath {
-        bytes,
-        len: front.len() + sep.len() + back.len(),
-    })
-}
-
-fn head_of(path: &ModulePath) -> Head
-    ensures { HeadOf (path_text path.now) result }
-{
-    match read_origin(path.as_bytes()) {
-        Some(head) => head,
-        None => unreachable(),
-    }
-}
-
-fn count_components(path: &ModulePath) -> usize
-    ensures { result ≡ length (path_value path.now).components }
-{
-    let end = head_of(path).end;
-    pass(path.as_bytes(), end, Step::Component, usize::MAX).count
-}
-
-fn same_path(a: &ModulePath, b: &ModulePath) -> bool
-    ensures same { SameAnswer a.now b.now result }
-    ensures lawful { Equivalence }
-{
-    same_bytes(a.as_bytes(), b.as_bytes())
+    let mut text = InlineBytes::new();
+    text.push(front)?;
+    text.push(sep)?;
+    text.push(back)?;
+    Ok(ModulePath { text })
 }
 
 impl ModulePath {
@@ -85,10 +49,7 @@ impl ModulePath {
         if !is_path(text) {
             return Err(PathFault::Malformed);
         }
-        match written(text, b"", b"") {
-            Some(path) => Ok(path),
-            None => Err(PathFault::Malformed),
-        }
+        written(text, b"", b"")
     }
 
     /// The bytes that the path is written as.
@@ -96,15 +57,14 @@ impl ModulePath {
         ensures value { result.now ≡ path_text self.now }
         ensures valid { is_path_text result.now ≡ true }
     {
-        let len = self.len;
-        &self.bytes[0..len]
+        self.text.as_slice()
     }
 
     /// The origin, and where its bytes end.
     pub fn head(&self) -> Head
         ensures { HeadOf (path_text self.now) result }
     {
-        head_of(self)
+        read_origin(self.as_bytes()).unwrap()
     }
 
     /// Where the path starts.
@@ -118,10 +78,12 @@ impl ModulePath {
     pub fn component_count(&self) -> usize
         ensures { result ≡ length (path_value self.now).components }
     {
-        count_components(self)
+        let end = self.head().end;
+        pass(self.as_bytes(), end, Step::Component, usize::MAX).count
     }
 }
 
+// By hand: a derive would compare the bytes past the length too.
 impl PartialEq for ModulePath {
     ghost eq = { path_eq };
 
@@ -131,6 +93,6 @@ impl PartialEq for ModulePath {
         ensures same { SameAnswer self.now other.now result }
         ensures lawful { Equivalence }
     {
-        same_path(self, other)
+        same_bytes(self.as_bytes(), other.as_bytes())
     }
 }

@@ -1,45 +1,30 @@
 //! Whether bytes are a plain name.
-ghost use Rattle.std.specs.Prelude.{◌≡◌, true, false, ◌&&◌, ◌||◌, MatchResult};
+ghost use Rattle.std.specs.Prelude.{◌≡◌, true, false, MatchResult};
+ghost use Rattle.std.specs.List.{list_all};
 ghost use Rattle.std.specs.Str.{bytes_eq};
 ghost use Rattle.wesl_path.specs.Texts.{name_text};
-ghost use Rattle.wesl_path.specs.Name.{digit, letter, word_byte, word_bytes, starts_well_text, reserved, plain};
+ghost use Rattle.wesl_path.specs.Name.{word_byte, starts_well_text, reserved, plain};
 
-use crate::cells::put;
 use crate::fault::PathFault;
+use crate::inline::InlineBytes;
 use crate::limits::LONGEST_NAME;
 use crate::name::PlainName;
 
-fn is_digit(b: u8) -> bool
-    ensures { result ≡ digit b }
-{
-    b >= b'0' && b <= b'9'
-}
-
-fn is_letter(b: u8) -> bool
-    ensures { result ≡ letter b }
-{
-    (b >= b'A' && b <= b'Z') || (b >= b'a' && b <= b'z')
-}
-
+#[tactic(auto, using(std::proofs::lemmas::Bool::Decides::nat_tests), unfolding(crate::specs::Name::word_byte, crate::specs::Name::letter, crate::specs::Name::digit))]
 fn is_word_byte(b: u8) -> bool
     ensures { result ≡ word_byte b }
 {
-    is_letter(b) || is_digit(b) || b == b'_'
-}
-
-fn are_equal(a: &[u8], b: &[u8]) -> bool
-    ensures { result ≡ bytes_eq a.now b.now }
-{
-    a == b
+    b.is_ascii_alphanumeric() || b == b'_'
 }
 
 /// Whether two texts have the same bytes.
 pub fn same_bytes(a: &[u8], b: &[u8]) -> bool
     ensures { result ≡ bytes_eq a.now b.now }
 {
-    are_equal(a, b)
+    a == b
 }
 
+#[tactic(auto, unfolding(crate::specs::Name::reserved))]
 fn is_reserved(bytes: &[u8]) -> bool
     ensures { result ≡ reserved bytes.now }
 {
@@ -49,27 +34,22 @@ fn is_reserved(bytes: &[u8]) -> bool
         || same_bytes(bytes, b"import")
 }
 
+#[tactic(auto, using(std::proofs::lemmas::Bool::Decides::nat_tests), unfolding(crate::specs::Name::digit))]
 fn starts_well(bytes: &[u8]) -> bool
     ensures { result ≡ starts_well_text bytes.now }
 {
-    match bytes {
-        [] => false,
-        [first, ..] => !is_digit(*first),
-    }
+    matches!(bytes, [first, ..] if !first.is_ascii_digit())
 }
 
 fn are_word_bytes(bytes: &[u8]) -> bool
-    ensures { result ≡ word_bytes bytes.now }
+    ensures { result ≡ list_all word_byte bytes.now }
 {
-    for b in bytes {
-        if !is_word_byte(*b) {
-            return false;
-        }
-    }
-    true
+    bytes.iter().all(|b| is_word_byte(*b))
 }
 
-fn passes(bytes: &[u8]) -> bool
+/// Whether `bytes` are a plain name.
+#[tactic(auto, using(crate::proofs::WordFacts::word_bytes_all, std::proofs::lemmas::Bool::Decides::nat_tests), unfolding(crate::specs::Name::plain))]
+pub fn is_plain(bytes: &[u8]) -> bool
     ensures { result ≡ plain bytes.now }
 {
     starts_well(bytes)
@@ -78,26 +58,8 @@ fn passes(bytes: &[u8]) -> bool
         && !is_reserved(bytes)
 }
 
-/// Whether `bytes` are a plain name.
-pub fn is_plain(bytes: &[u8]) -> bool
-    ensures { result ≡ plain bytes.now }
-{
-    passes(bytes)
-}
-
-fn kept(bytes: &[u8]) -> PlainName
-    requires { plain bytes.now ≡ true }
-    ensures { name_text result ≡ bytes.now }
-{
-    let mut cell = [0u8; LONGEST_NAME];
-    put(&mut cell, 0, bytes);
-    PlainName {
-        bytes: cell,
-        len: bytes.len(),
-    }
-}
-
 impl PlainName {
+    #[tactic(auto, using(crate::proofs::WordFacts::plain_short))]
     /// Reads a plain name, or refuses bytes that are none.
     pub fn read(bytes: &[u8]) -> Result<PlainName, PathFault>
         ensures { MatchResult result (λ n. name_text n ≡ bytes.now) (λ e. (e ≡ PathFault.Malformed) × (plain bytes.now ≡ false)) }
@@ -105,7 +67,9 @@ impl PlainName {
         if !is_plain(bytes) {
             return Err(PathFault::Malformed);
         }
-        Ok(kept(bytes))
+        let mut text = InlineBytes::new();
+        text.push(bytes)?;
+        Ok(PlainName { text })
     }
 
     /// The name's bytes.
@@ -113,7 +77,6 @@ impl PlainName {
         ensures value { result.now ≡ name_text self.now }
         ensures valid { plain result.now ≡ true }
     {
-        let len = self.len;
-        &self.bytes[0..len]
+        self.text.as_slice()
     }
 }

@@ -6,10 +6,8 @@ use Rattle.wesl_path.proofs.components.methods.names_end.Goals as goal
 pub returns-then-not-is_plain : goal.returns-then-not-is_plain
 returns-then-not-is_plain c = no_components c.args.text.now c.word_end-end.result c.word_end-end.ensures.value (sym c.if-not-is_plain.ensures)
 
-pub pass-requires : goal.pass-requires
-pass-requires c =
-    let h = head_edge c.args.text.now c.word_end-end.result c.word_end-end.ensures.value in
-    record { within = h.0; edge = h.1 }
+pub pass-requires-clause-edge : goal.pass-requires-clause-edge
+pass-requires-clause-edge c = head_edge c.args.text.now c.word_end-end.result c.word_end-end.ensures.value
 
 pub returns : goal.returns
 returns c =

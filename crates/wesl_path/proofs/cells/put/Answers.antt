@@ -1,7 +1,7 @@
 use Rattle.std.proofs.Common.{length, refl, ◌∙◌, arith}
 use Rattle.std.proofs.lemmas.Slice.{put_mid-paste}
 use Rattle.std.proofs.lemmas.List.Edits.{paste_all}
-use Rattle.wesl_path.proofs.cells.copy_at.Goals as goal
+use Rattle.wesl_path.proofs.cells.put.Goals as goal
 
 pub returns : goal.returns
 returns c =

@@ -6,10 +6,11 @@ ghost use Rattle.wesl_path.specs.Components.{are_components_text};
 pub mod methods;
 
 use crate::inline::InlineBytes;
+use crate::limits::LONGEST_PATH;
 
 /// One or more plain names parted by `::`, at most 255 bytes: what an element of an import appends to a path.
 #[derive(Clone, Copy)]
 pub struct Components {
-    text: InlineBytes<255>,
+    text: InlineBytes<LONGEST_PATH>,
     ghost valid: { are_components_text (held text) ≡ true },
 }

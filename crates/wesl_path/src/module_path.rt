@@ -6,10 +6,11 @@ ghost use Rattle.wesl_path.specs.Path.{is_path_text};
 pub mod methods;
 
 use crate::inline::InlineBytes;
+use crate::limits::LONGEST_PATH;
 
 /// Where the declarations of a module are found: an origin and components, at most 255 bytes as written.
 #[derive(Clone, Copy)]
 pub struct ModulePath {
-    text: InlineBytes<255>,
+    text: InlineBytes<LONGEST_PATH>,
     ghost valid: { is_path_text (held text) ≡ true },
 }

@@ -9,6 +9,8 @@ use crate::inline::InlineBytes;
 use crate::limits::LONGEST_PATH;
 use crate::name::test::is_plain;
 use crate::words::{Step, pass, word_end};
+use std::fmt;
+use std::str::from_utf8;
 
 /// Where the plain names parted by `::` end: a text within the length is components where they end with it.
 fn names_end(text: &[u8]) -> Option<usize>
@@ -29,8 +31,8 @@ pub fn are_components(text: &[u8]) -> bool
 }
 
 impl Components {
-    #[tactic(auto, using(crate::proofs::ComponentFacts::test_from_components))]
     /// Reads components, or refuses bytes that are none.
+    #[tactic(auto, using(crate::proofs::ComponentFacts::test_from_components))]
     pub fn read(bytes: &[u8]) -> Result<Components, PathFault>
         ensures { MatchResult result (λ m. components_text m ≡ bytes.now) (λ e. (e ≡ PathFault.Malformed) × (AreComponents bytes.now → ⊥)) }
     {
@@ -48,5 +50,19 @@ impl Components {
         ensures valid { are_components_text result.now ≡ true }
     {
         self.text.as_slice()
+    }
+
+    /// The components as text.
+    #[tactic(auto, using(crate::proofs::AsciiFacts::components_utf8))]
+    pub fn as_str(&self) -> &str
+        ensures { result.now ≡ components_text self.now }
+    {
+        from_utf8(self.as_bytes()).unwrap()
+    }
+}
+
+impl fmt::Display for Components {
+    fn fmt<W: fmt::Write>(&self, f: &mut fmt::Formatter<W>) -> fmt::Result {
+        f.pad(self.as_str())
     }
 }

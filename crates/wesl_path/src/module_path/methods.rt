@@ -13,6 +13,8 @@ use crate::module_path::ModulePath;
 use crate::name::test::same_bytes;
 use crate::origin::{Head, PathOrigin, read_origin};
 use crate::words::{Step, pass};
+use std::fmt;
+use std::str::from_utf8;
 
 /// Where the words end that can be read as a path's: a text within the length is a path where they end with it.
 fn words_end(text: &[u8]) -> Option<usize>
@@ -60,6 +62,14 @@ impl ModulePath {
         self.text.as_slice()
     }
 
+    /// The path as text.
+    #[tactic(auto, using(crate::proofs::AsciiFacts::path_utf8))]
+    pub fn as_str(&self) -> &str
+        ensures { result.now ≡ path_text self.now }
+    {
+        from_utf8(self.as_bytes()).unwrap()
+    }
+
     /// The origin, and where its bytes end.
     pub fn head(&self) -> Head
         ensures { HeadOf (path_text self.now) result }
@@ -94,5 +104,11 @@ impl PartialEq for ModulePath {
         ensures lawful { Equivalence }
     {
         same_bytes(self.as_bytes(), other.as_bytes())
+    }
+}
+
+impl fmt::Display for ModulePath {
+    fn fmt<W: fmt::Write>(&self, f: &mut fmt::Formatter<W>) -> fmt::Result {
+        f.pad(self.as_str())
     }
 }

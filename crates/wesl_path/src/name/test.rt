@@ -9,6 +9,8 @@ use crate::fault::PathFault;
 use crate::inline::InlineBytes;
 use crate::limits::LONGEST_NAME;
 use crate::name::PlainName;
+use std::fmt;
+use std::str::from_utf8;
 
 #[tactic(auto, using(std::proofs::lemmas::Bool::Decides::nat_tests), unfolding(crate::specs::Name::word_byte, crate::specs::Name::letter, crate::specs::Name::digit))]
 fn is_word_byte(b: u8) -> bool
@@ -59,8 +61,8 @@ pub fn is_plain(bytes: &[u8]) -> bool
 }
 
 impl PlainName {
-    #[tactic(auto, using(crate::proofs::WordFacts::plain_short))]
     /// Reads a plain name, or refuses bytes that are none.
+    #[tactic(auto, using(crate::proofs::WordFacts::plain_short))]
     pub fn read(bytes: &[u8]) -> Result<PlainName, PathFault>
         ensures { MatchResult result (λ n. name_text n ≡ bytes.now) (λ e. (e ≡ PathFault.Malformed) × (plain bytes.now ≡ false)) }
     {
@@ -78,5 +80,19 @@ impl PlainName {
         ensures valid { plain result.now ≡ true }
     {
         self.text.as_slice()
+    }
+
+    /// The name as text.
+    #[tactic(auto, using(crate::proofs::AsciiFacts::name_utf8))]
+    pub fn as_str(&self) -> &str
+        ensures { result.now ≡ name_text self.now }
+    {
+        from_utf8(self.as_bytes()).unwrap()
+    }
+}
+
+impl fmt::Display for PlainName {
+    fn fmt<W: fmt::Write>(&self, f: &mut fmt::Formatter<W>) -> fmt::Result {
+        f.pad(self.as_str())
     }
 }

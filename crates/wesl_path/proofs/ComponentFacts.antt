@@ -1,5 +1,5 @@
 -- Components without an origin are read in one way.
-use Rattle.std.proofs.Common.{◌≡◌, ℕ, ◌+◌, ◌-◌, ◌<◌, ◌≤◌, true, false, eqb, leb, List, [], ◌∷◌, ◌++◌, length, take, drop, codes, Decides, sym, ap, ◌∙◌, subst, arith}
+use Rattle.std.proofs.Common.{◌≡◌, ℕ, ◌+◌, ◌-◌, ◌≤◌, true, false, eqb, leb, List, [], ◌∷◌, ◌++◌, length, take, drop, codes, Decides, sym, ap, ◌∙◌, subst, arith}
 use Rattle.std.specs.List.{AllByRecursion}
 use Rattle.std.specs.Str.{bytes_eq}
 use Rattle.std.proofs.lemmas.List.{append_assoc, append-nil, append_cancel_left, length-drop, drop_all}
@@ -48,9 +48,9 @@ module _ (text : List ℕ) (n : ℕ) (long : n ≡ 0 + length (first_word text))
       let same : first_word text ≡ f.0 = ap first_word f.4 ∙ first_is f.0 _ (plain_inner f.0 f.2) (components_edge f.1) in
       both_ways (plain f.0) (ap plain (sym (first_taken text n long ∙ same)) ∙ e) f.2
 
-  pub passed_components : plain (take n text) ≡ true → length text ≤ 255 → (most count end : ℕ) → count < most → Passing Component most text n count end
+  pub passed_components : plain (take n text) ≡ true → length text ≤ 255 → (count end : ℕ) → Passing Component (count + 1) text n count end
       → Decides (eqb end (length text)) (AreComponents text)
-  passed_components e short most count end few p =
+  passed_components e short count end p =
       let w = first_word text in
       let hw : Plain w = subst Plain (first_taken text n long) e in (
         (λ t. let k = eqb-true end (length text) t in
@@ -68,7 +68,7 @@ module _ (text : List ℕ) (n : ℕ) (long : n ≡ 0 + length (first_word text))
             let rest : after_word text ≡ led (codes "::") f.1 = ap after_word f.4 ∙ after_is f.0 _ (plain_inner f.0 f.2) edge in
             let q = led_prefix Component p.ws f.1 (drop end text) [] p.fits f.3 p.edge tt nothing_led
             (sym p.reads ∙ (text_left text n long ∙ (rest ∙ sym (append-nil (led (codes "::") f.1))))) in
-            let a = led_all Component p.ws f.1 (drop end text) [] tt (p.stops few) f.3 q in
+            let a = led_all Component p.ws f.1 (drop end text) [] tt (p.stops (omega arith)) f.3 q in
             let l : length text - end ≡ 0 = sym (length-drop end text) ∙ ap length a.1 in
             let v = p.within in
             eq-eqb end (length text) (omega arith)),

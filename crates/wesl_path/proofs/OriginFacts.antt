@@ -1,5 +1,5 @@
 -- The origin of a path is told by its first word and by the words that follow.
-use Rattle.std.proofs.Common.{◌≡◌, ℕ, zero, suc, ◌+◌, ◌<◌, ◌≤◌, true, false, List, [], ◌∷◌, ◌++◌, length, take, drop, replicate, codes, sym, refl, ap, ◌∙◌, subst, one-add, arith}
+use Rattle.std.proofs.Common.{◌≡◌, ℕ, zero, suc, ◌+◌, ◌≤◌, true, false, List, [], ◌∷◌, ◌++◌, length, take, drop, replicate, codes, sym, refl, ap, ◌∙◌, subst, one-add, arith}
 use Rattle.std.specs.List.{AllByRecursion}
 use Rattle.std.specs.Str.{bytes_eq}
 use Rattle.std.proofs.lemmas.List.{append_assoc, append_cancel_left, length-replicate, drop_at}
@@ -158,26 +158,26 @@ module _ (text : List ℕ) (n : ℕ) (long : n ≡ 0 + length (first_word text))
   headed_self e =
       headed_at text (record { origin = Relative 0; end = n }) (relative zero) tt refl (word_is _ e) (sym (text_left text n long)) head_edge end_within (only_self _)
 
-  pub headed_super : bytes_eq (take n text) (codes "super") ≡ true → (most count end : ℕ) → count < most → Passing Super most text n count end
+  pub headed_super : bytes_eq (take n text) (codes "super") ≡ true → (count end : ℕ) → Passing Super (count + 1) text n count end
       → Headed text (record { origin = Relative (1 + count); end = end })
-  headed_super e most count end few p =
+  headed_super e count end p =
       let s = supers_are p.ws p.fits in
       let k = p.many in
       headed_at text (record { origin = Relative (1 + count); end = end }) (relative (suc (length p.ws))) tt (ap Relative (one-add count ∙ ap suc k)) (word_is _ e)
       (sym (text_left text n long) ∙ (p.reads ∙ ap (λ x. led (codes "::") x ++ drop end text) s)) p.edge p.within
-      (only_super (length p.ws) (drop end text) p.edge (p.stops few))
+      (only_super (length p.ws) (drop end text) p.edge (p.stops (omega arith)))
     where
       supers_are : (ws : List (List ℕ)) → AllByRecursion (Fits Super) ws → ws ≡ replicate (length ws) (codes "super")
       supers_are [] h = refl
       supers_are (w ∷ ws) h = let a = (bytes_eq-Decides w (codes "super")).0 h.0 in let b = supers_are ws h.1 in cc
 
-  pub headed_parts : plain (take n text) ≡ true → (most count end : ℕ) → count < most → Passing Part most text n count end
+  pub headed_parts : plain (take n text) ≡ true → (count end : ℕ) → Passing Part (count + 1) text n count end
       → Headed text (record { origin = Package (1 + count); end = end })
-  headed_parts e most count end few p =
+  headed_parts e count end p =
       let w = first_word text in
       let hp : Plain w = subst Plain (first_taken text n long) e in
       headed_at text (record { origin = Package (1 + count); end = end }) (packaged w p.ws) (hp, p.fits) (ap (λ x. Package (1 + x)) p.many) refl
-      (sym (text_left text n long) ∙ p.reads) p.edge p.within (only_parts w p.ws (drop end text) hp p.fits p.edge (p.stops few))
+      (sym (text_left text n long) ∙ p.reads) p.edge p.within (only_parts w p.ws (drop end text) hp p.fits p.edge (p.stops (omega arith)))
 
   pub headless_at : bytes_eq (take n text) (codes "package") ≡ false → bytes_eq (take n text) (codes "self") ≡ false
       → bytes_eq (take n text) (codes "super") ≡ false → plain (take n text) ≡ false → Headless text

@@ -1,5 +1,5 @@
 -- The components that are passed after a path's origin are the path's.
-use Rattle.std.proofs.Common.{◌≡◌, ℕ, ◌-◌, ◌<◌, ◌≤◌, Bool, true, eqb, List, [], ◌++◌, length, take, drop, Option, Some, None, MatchOption, codes, Decides, sym, refl, ap, ◌∙◌, subst, arith}
+use Rattle.std.proofs.Common.{◌≡◌, ℕ, ◌+◌, ◌-◌, ◌<◌, ◌≤◌, Bool, true, eqb, List, [], ◌++◌, length, take, drop, Option, Some, None, MatchOption, codes, Decides, sym, refl, ap, ◌∙◌, subst, arith}
 use Rattle.std.specs.List.{AllByRecursion}
 use Rattle.std.proofs.lemmas.List.{append-nil, length-append, length-drop, take_at, drop_all}
 use Rattle.std.specs.Str.{bytes_eq}
@@ -20,19 +20,19 @@ use Rattle.wesl_path.proofs.WordFacts.{Prefix, led_prefix, led_all}
 pub nothing_led : NotLed Component []
 nothing_led w rest f b e = let z : ◌≡◌ {A = ℕ} 0 1 = cc in omega arith
 
-module _ (text : List ℕ) (h : Head) (headed : Headed text h) (most count end : ℕ) (passing : Passing Component most text h.end count end) where
+module _ (text : List ℕ) (h : Head) (headed : Headed text h) (count end : ℕ) (passing : Passing Component (count + 1) text h.end count end) where
   pub passed_prefix : (p : Path) → PlainOrigin p.origin → AllByRecursion Plain p.components → text ≡ shown p → Prefix Component passing.ws p.components (drop end text) []
   passed_prefix p ho hc e =
       led_prefix Component passing.ws p.components (drop end text) [] passing.fits hc passing.edge tt nothing_led
       (sym passing.reads ∙ ((headed.only p ho hc e).1 ∙ sym (append-nil (led (codes "::") p.components))))
 
-  pub passed_all : count < most → (p : Path) → PlainOrigin p.origin → AllByRecursion Plain p.components → text ≡ shown p → (passing.ws ≡ p.components) × (drop end text ≡ [])
-  passed_all few p ho hc e = led_all Component passing.ws p.components (drop end text) [] tt (passing.stops few) hc (passed_prefix p ho hc e)
+  pub passed_all : (p : Path) → PlainOrigin p.origin → AllByRecursion Plain p.components → text ≡ shown p → (passing.ws ≡ p.components) × (drop end text ≡ [])
+  passed_all p ho hc e = led_all Component passing.ws p.components (drop end text) [] tt (passing.stops (omega arith)) hc (passed_prefix p ho hc e)
 
   -- a text is a path where its words go on to its end
-  pub passed_decides : count < most → length text ≤ 255 → Decides (eqb end (length text)) (IsPath text)
+  pub passed_decides : length text ≤ 255 → Decides (eqb end (length text)) (IsPath text)
   unfolding shown
-  passed_decides few short = (
+  passed_decides short = (
     (λ e. let k = eqb-true end (length text) e in
         let none : drop end text ≡ [] = drop_all end text (omega arith) in
         let whole : shown (record { origin = headed.found; components = passing.ws }) ≡ text =
@@ -44,7 +44,7 @@ module _ (text : List ℕ) (h : Head) (headed : Headed text h) (most count end :
         }),
     (λ i. let p = i.path in
         let s = i.sound in
-        let none = (passed_all few p s.origin s.components (sym i.printed)).1 in
+        let none = (passed_all p s.origin s.components (sym i.printed)).1 in
         let l : length text - end ≡ 0 = sym (length-drop end text) ∙ ap length none in
         let w = passing.within in
         eq-eqb end (length text) (omega arith)),

@@ -11,7 +11,7 @@ use crate::module_path::ModulePath;
 use crate::module_path::methods::written;
 use crate::name::PlainName;
 use crate::origin::{Head, PathOrigin};
-use crate::words::{Step, pass};
+use crate::words::{Step, pass, pass_at_most};
 
 /// How two paths are put together: a front of the one, a slash or nothing, and a back of the other.
 #[derive(Clone, Copy)]
@@ -28,8 +28,8 @@ fn without_last(text: &[u8], head: Head, n: usize) -> usize
     ensures front { take result text.now ≡ shown_origin (path_of text.now).origin ++ led (codes "::") (without_last_names n (path_of text.now).components) }
     ensures within { result ≤ length text.now }
 {
-    let all = pass(text, head.end, Step::Component, usize::MAX).count;
-    pass(text, head.end, Step::Component, all.saturating_sub(n)).end
+    let all = pass(text, head.end, Step::Component).count;
+    pass_at_most(text, head.end, Step::Component, all.saturating_sub(n)).end
 }
 
 /// A package read from inside another is one part further down.

@@ -34,10 +34,10 @@ pub(crate) fn read_origin(text: &[u8]) -> Option<Head>
     } else if same_bytes(first, b"self") {
         (PathOrigin::Relative(0), end)
     } else if same_bytes(first, b"super") {
-        let more = pass(text, end, Step::Super, usize::MAX);
+        let more = pass(text, end, Step::Super);
         (PathOrigin::Relative(1 + more.count), more.end)
     } else if is_plain(first) {
-        let more = pass(text, end, Step::Part, usize::MAX);
+        let more = pass(text, end, Step::Part);
         (PathOrigin::Package(1 + more.count), more.end)
     } else {
         return None;

@@ -83,8 +83,8 @@ fn led_word(text: &[u8], at: usize, step: Step) -> Option<usize>
     }
 }
 
-/// Passes the words of a kind from `at` on: all that follow one another, or the first `most`.
-pub(crate) fn pass(text: &[u8], at: usize, step: Step, most: usize) -> Passed
+/// Passes the words of a kind that follow one another from `at` on, or the first `most` of them.
+pub(crate) fn pass_at_most(text: &[u8], at: usize, step: Step, most: usize) -> Passed
     requires within { at ≤ length text.now }
     requires edge { Boundary (drop at text.now) }
     ensures { Passing step most text.now at result.count result.end }
@@ -97,4 +97,13 @@ pub(crate) fn pass(text: &[u8], at: usize, step: Step, most: usize) -> Passed
         }
     }
     Passed { count: most, end }
+}
+
+/// Passes all words of a kind that follow one another from `at` on: there is none more.
+pub(crate) fn pass(text: &[u8], at: usize, step: Step) -> Passed
+    requires within { at ≤ length text.now }
+    requires edge { Boundary (drop at text.now) }
+    ensures { Passing step (result.count + 1) text.now at result.count result.end }
+{
+    pass_at_most(text, at, step, usize::MAX)
 }

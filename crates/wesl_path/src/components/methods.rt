@@ -20,7 +20,7 @@ fn names_end(text: &[u8]) -> Option<usize>
     if !is_plain(&text[..end]) {
         return None;
     }
-    Some(pass(text, end, Step::Component, usize::MAX).end)
+    Some(pass(text, end, Step::Component).end)
 }
 
 /// Whether `text` is plain names parted by `::`.

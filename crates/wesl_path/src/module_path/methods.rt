@@ -21,7 +21,7 @@ fn words_end(text: &[u8]) -> Option<usize>
     ensures { MatchOption result (IsPath text.now → ⊥) (λ end. length text.now ≤ 255 → Decides (end == length text.now) (IsPath text.now)) }
 {
     let head = read_origin(text)?;
-    Some(pass(text, head.end, Step::Component, usize::MAX).end)
+    Some(pass(text, head.end, Step::Component).end)
 }
 
 /// Whether `text` is a path.
@@ -89,7 +89,7 @@ impl ModulePath {
         ensures { result ≡ length (path_value self.now).components }
     {
         let end = self.head().end;
-        pass(self.as_bytes(), end, Step::Component, usize::MAX).count
+        pass(self.as_bytes(), end, Step::Component).count
     }
 }
 

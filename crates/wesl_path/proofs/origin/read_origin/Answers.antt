@@ -1,4 +1,4 @@
-use Rattle.std.proofs.Common.{sym, arith}
+use Rattle.std.proofs.Common.{sym}
 use Rattle.wesl_path.proofs.OriginFacts.{head_edge, headed_package, headed_self, headed_super, headed_parts, headless_at}
 use Rattle.wesl_path.proofs.origin.read_origin.Goals as goal
 
@@ -13,8 +13,8 @@ pass-more-requires-clause-edge c = head_edge c.args.text.now c.word_end-end.resu
 
 pub returns-then-same_bytes-3 : goal.returns-then-same_bytes-3
 returns-then-same_bytes-3 c =
-    headed_super c.args.text.now c.word_end-end.result c.word_end-end.ensures.value (sym c.if-same_bytes-3.ensures) 18446744073709551615
-    c.pass-more.result.count c.pass-more.result.end (let a = c.pass-more.ensures.ahead in let w = c.pass-more.ensures.within in omega (arith, c.well_formed)) c.pass-more.ensures
+    headed_super c.args.text.now c.word_end-end.result c.word_end-end.ensures.value (sym c.if-same_bytes-3.ensures) c.pass-more.result.count c.pass-more.result.end
+    c.pass-more.ensures
 
 pub pass-more-requires-then-is_plain-clause-edge : goal.pass-more-requires-then-is_plain-clause-edge
 pass-more-requires-then-is_plain-clause-edge c = head_edge c.args.text.now c.word_end-end.result c.word_end-end.ensures.value
@@ -22,8 +22,8 @@ pass-more-requires-then-is_plain-clause-edge c = head_edge c.args.text.now c.wor
 pub returns-then-is_plain : goal.returns-then-is_plain
 returns-then-is_plain c =
     let more = c.pass-more-then-is_plain in
-    headed_parts c.args.text.now c.word_end-end.result c.word_end-end.ensures.value (sym c.if-is_plain.ensures) 18446744073709551615
-    more.result.count more.result.end (let a = more.ensures.ahead in let w = more.ensures.within in omega (arith, c.well_formed)) more.ensures
+    headed_parts c.args.text.now c.word_end-end.result c.word_end-end.ensures.value (sym c.if-is_plain.ensures) more.result.count more.result.end
+    more.ensures
 
 pub returns-else-is_plain : goal.returns-else-is_plain
 returns-else-is_plain c =

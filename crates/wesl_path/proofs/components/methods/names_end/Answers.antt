@@ -1,4 +1,4 @@
-use Rattle.std.proofs.Common.{sym, arith}
+use Rattle.std.proofs.Common.{sym}
 use Rattle.wesl_path.proofs.OriginFacts.{head_edge}
 use Rattle.wesl_path.proofs.ComponentFacts.{passed_components, no_components}
 use Rattle.wesl_path.proofs.components.methods.names_end.Goals as goal
@@ -12,5 +12,4 @@ pass-requires-clause-edge c = head_edge c.args.text.now c.word_end-end.result c.
 pub returns : goal.returns
 returns c =
     λ s. passed_components c.args.text.now c.word_end-end.result c.word_end-end.ensures.value (sym c.if-not-is_plain.ensures) s
-    18446744073709551615 c.pass.result.count c.pass.result.end
-    (let a = c.pass.ensures.ahead in let w = c.pass.ensures.within in omega (arith, c.well_formed)) c.pass.ensures
+    c.pass.result.count c.pass.result.end c.pass.ensures

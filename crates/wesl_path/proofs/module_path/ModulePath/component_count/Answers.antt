@@ -1,7 +1,7 @@
-use Rattle.std.proofs.Common.{length, sym, ap, ◌∙◌, subst, arith}
+use Rattle.std.proofs.Common.{◌+◌, length, sym, ap, ◌∙◌, subst, arith}
 use Rattle.wesl_path.specs.Path.{path_of}
 use Rattle.wesl_path.specs.Heads.{HeadOf}
-use Rattle.wesl_path.proofs.PassedFacts.{own_count, own_edge, own_short}
+use Rattle.wesl_path.proofs.PassedFacts.{own_count, own_edge}
 use Rattle.wesl_path.proofs.module_path.ModulePath.component_count.Goals as goal
 
 pub pass-requires-clause-edge : goal.pass-requires-clause-edge
@@ -13,8 +13,5 @@ pub returns : goal.returns
 returns c =
     let text = c.as_bytes.result.now in
     let head = subst (λ x. HeadOf x c.head-end.result) (sym c.as_bytes.ensures.value) c.head-end.ensures in
-    let s = own_short text c.as_bytes.ensures.valid in
-    let a = c.pass.ensures.ahead in
-    let w = c.pass.ensures.within in
-    own_count text c.head-end.result c.as_bytes.ensures.valid head 18446744073709551615 c.pass.result.count c.pass.result.end c.pass.ensures (omega arith)
+    own_count text c.head-end.result c.as_bytes.ensures.valid head (c.pass.result.count + 1) c.pass.result.count c.pass.result.end c.pass.ensures (omega arith)
     ∙ ap (λ x. length (path_of x).components) c.as_bytes.ensures.value

@@ -1,5 +1,5 @@
 use Rattle.wesl_path.proofs.WordFacts.{pass_more}
-use Rattle.wesl_path.proofs.words.pass.Goals as goal
+use Rattle.wesl_path.proofs.words.pass_at_most.Goals as goal
 
 pub loop-count-preserved : goal.loop-count-preserved
 loop-count-preserved c =

@@ -6,6 +6,7 @@ use Rattle.std.proofs.lemmas.List.{get_or-take, get_or-drop, length-take, length
 use Rattle.wesl_table.specs.Keys.{First}
 
 module _ {X : Type 0} (xs : List X) (low high : ℕ) where
+  -- the records from `low` on and below `high`
   abbrev pub part : List X
   part = slice_range xs low high
 
@@ -17,6 +18,7 @@ module _ {X : Type 0} (xs : List X) (low high : ℕ) where
       let q : low + (k - low) ≡ k = omega arith in
       subst P (part-at (k - low) d (omega arith) ∙ ap (λ j. get_or xs j d) q) (f (k - low) d (omega arith) (omega arith))
 
+  -- the first in the part, counted from the part's start, is the first in the list from there on
   pub first_in_part : (P : X → Type 0) (r : Option ℕ) → low ≤ high → high ≤ length xs → MatchOption r (AllWithin (λ x. P x → ⊥) part 0 (length part)) (λ i. (i < length part) × HoldsAt P part i × AllWithin (λ x. P x → ⊥) part 0 i) → First P xs low high (option_map (λ i. low + i) r)
   first_in_part P None h l f =
       let n : low + length part ≡ high = omega (arith, length-take (high - low) (drop low xs), length-drop low xs) in

@@ -1,5 +1,5 @@
 -- Modules by their paths: what is found, and what a further one changes.
-use Rattle.std.proofs.Common.{◌≡◌, ℕ, zero, suc, ◌<◌, true, false, List, [], ◌∷◌, ◌++◌, map, length, set, is_some, Some, None, sym, refl, ap, ◌∙◌, inl, inr, arith}
+use Rattle.std.proofs.Common.{◌≡◌, ℕ, zero, suc, ◌<◌, true, false, List, [], ◌∷◌, ◌++◌, map, length, get_or, set, Some, None, sym, refl, ap, ◌∙◌, inl, inr, arith}
 use Rattle.std.specs.List.{HoldsAt, AllWithin}
 use Rattle.std.specs.Str.{bytes_eq}
 use Rattle.std.proofs.lemmas.Slice.Eq.{bytes_eq-Decides}
@@ -20,17 +20,11 @@ module _ {X : Type 0} (f : X → Source) (p : List ℕ) where
   before_rest : (x : X) (xs : List X) (i : ℕ) → Before (x ∷ xs) (suc i) → Before xs i
   before_rest x xs i n k d l h = n (suc k) d (omega arith) (omega arith)
 
-  pub text_found : (xs : List X) (i : ℕ) (x : X) → i < length xs → HoldsAt (λ y. y ≡ x) xs i → HoldsAt (λ y. (f y).path ≡ p) xs i → Before xs i → text_at (map f xs) p ≡ Some (f x).text
-  text_found [] i x h e a n = absurd (omega arith)
-  text_found (y ∷ ys) zero x h e a n = let q = bytes_same (f y).path p (a y) in rw q (ap (λ z. Some (f z).text) (e y))
-  text_found (y ∷ ys) (suc i) x h e a n =
-      let q = bytes_apart (f y).path p (n 0 y (omega arith) (omega arith)) in
-      rw q (text_found ys i x (omega arith) e a (before_rest y ys i n))
-
-  pub some_found : (xs : List X) (i : ℕ) → i < length xs → HoldsAt (λ y. (f y).path ≡ p) xs i → is_some (text_at (map f xs) p) ≡ true
-  some_found [] i h a = absurd (omega arith)
-  some_found (y ∷ ys) zero h a = let q = bytes_same (f y).path p (a y) in rw q
-  some_found (y ∷ ys) (suc i) h a = elim (cases_Bool (bytes_eq (f y).path p)) [ inl q ↦ rw q | inr q ↦ rw q (some_found ys i (omega arith) a) ]
+  pub text_found : (xs : List X) (i : ℕ) (d : X) → i < length xs → HoldsAt (λ y. (f y).path ≡ p) xs i → Before xs i → text_at (map f xs) p ≡ Some (f (get_or xs i d)).text
+  text_found [] i d h a n = absurd (omega arith)
+  text_found (y ∷ ys) zero d h a n = let q = bytes_same (f y).path p (a d) in rw q
+  text_found (y ∷ ys) (suc i) d h a n =
+      let q = bytes_apart (f y).path p (n 0 y (omega arith) (omega arith)) in rw q (text_found ys i d (omega arith) a (before_rest y ys i n))
 
   pub text_absent : (xs : List X) → Before xs (length xs) → text_at (map f xs) p ≡ None
   text_absent [] n = refl

@@ -21,8 +21,3 @@ pub record SameCells {T : Type 0} (was new : Table T) : Type 0 where
 abbrev pub Pushed : {T : Type 0} → T → Table T → Table T → Result (Unit {0}) TableFault → Type 0
 Pushed x was new (Ok _) = (length (records was) < room was) × (records new ≡ records was ++ x ∷ []) × SameCells was new
 Pushed x was new (Err Full) = (room was ≤ length (records was)) × (new ≡ was)
-
--- the same of cells with a count: how many records there are then, or that there is no cell
-abbrev pub Added : {T : Type 0} → T → ℕ → List T → List T → Result ℕ TableFault → Type 0
-Added x count was new (Ok n) = (length (take count was) < length was) × (take n new ≡ take count was ++ x ∷ []) × (length new ≡ length was)
-Added x count was new (Err Full) = (length was ≤ length (take count was)) × (new ≡ was)

@@ -1,7 +1,6 @@
 //! The one table behind every lookup: records with a key, in the order in which they were added.
 #![tactic(auto)]
 
-mod cells;
 pub mod fault;
 pub mod keyed;
 pub mod place;

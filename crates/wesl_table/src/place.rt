@@ -5,26 +5,20 @@ ghost use Rattle.wesl_table.specs.Places.{part};
 use crate::keyed::{ByBytes, Keyed};
 
 /// Where bytes lie in a text: a start and a length.
-#[derive(Clone, Copy)]
+#[derive(Clone, Copy, Debug, PartialEq, Eq)]
 pub struct Place {
     pub start: usize,
     pub len: usize,
 }
 
-fn part_of(text: &[u8], start: usize, len: usize) -> &[u8]
-    ensures { result.now ≡ part (record { start = start; len = len }) text.now }
-{
-    let from = start.min(text.len());
-    let end = from + len.min(text.len() - from);
-    &text[from..end]
-}
-
 impl Place {
     /// The bytes at the place, or as many of them as the text has there.
+    #[tactic(auto, unfolding(crate::specs::Places::part))]
     pub fn of(self, text: &[u8]) -> &[u8]
         ensures { result.now ≡ part self text.now }
     {
-        part_of(text, self.start, self.len)
+        let rest = &text[self.start.min(text.len())..];
+        &rest[..self.len.min(rest.len())]
     }
 }
 

@@ -2,21 +2,23 @@
 ghost use Rattle.std.specs.Prelude.{◌≡◌, ◌<◌, ◌≤◌, min, [], length, take, MatchOption, slice_set};
 ghost use Rattle.std.specs.List.{HoldsAt};
 ghost use Rattle.wesl_table.specs.Keys.{First};
-ghost use Rattle.wesl_table.specs.Tables.{records, room, SameCells, Pushed};
 
-use crate::cells::{add, counted, cut, first_with, put, record_at};
 use crate::fault::TableFault;
-use crate::keyed::Keyed;
+use crate::keyed::{Comparison, Keyed};
 
 /// Records in the order in which they were added, in cells that the caller lends. Cells past the count are free, and
 /// never read.
+// It has no model, since with one its caller does not learn what the cells hold once the table is gone.
 #[derive(Drop)]
 pub struct Table<'a, T> {
     cells: &'a mut [T],
     count: usize,
+    ghost within: { count ≤ length cells.now },
 }
 
 impl<'a, T: Copy> Table<'a, T> {
+    ghost use Rattle.wesl_table.specs.Tables.{records, room, SameCells, Pushed};
+
     /// A table without records over all of these cells.
     pub fn new(cells: &'a mut [T]) -> Table<'a, T>
         ensures empty { records result ≡ [] }
@@ -26,39 +28,43 @@ impl<'a, T: Copy> Table<'a, T> {
         Table { cells, count: 0 }
     }
 
+    fn records(&self) -> &[T]
+        ensures { result.now ≡ records self.now }
+    {
+        &self.cells[..self.count]
+    }
+
     /// How many records it holds.
     pub fn len(&self) -> usize
         ensures { result ≡ length (records self.now) }
     {
-        counted(self.cells, self.count).len()
+        self.records().len()
     }
 
     /// The record at an index, counted from 0 in the order in which they were added.
     pub fn get(&self, i: usize) -> Option<T>
         ensures { MatchOption result (length (records self.now) ≤ i) (λ x. (i < length (records self.now)) × HoldsAt (λ y. y ≡ x) (records self.now) i) }
     {
-        if i < self.len() {
-            Some(self.at(i))
-        } else {
-            None
-        }
+        self.records().get(i).copied()
     }
 
-    /// The record at the index of one that is there. It serves records that borrow, which an older Rattle could not hand
-    /// over in an `Option`.
+    /// The record at the index of one that is there.
     pub fn at(&self, i: usize) -> T
         requires { i < length (records self.now) }
         ensures { HoldsAt (λ y. y ≡ result) (records self.now) i }
     {
-        record_at(counted(self.cells, self.count), i)
+        self.records()[i]
     }
 
     /// Adds a record at the end, where there is a cell for it.
     pub fn push(&mut self, record: T) -> Result<(), TableFault>
         ensures { Pushed «record» self.old self.new result }
     {
-        let count = self.count;
-        self.count = add(self.cells, count, record)?;
+        if self.count >= self.cells.len() {
+            return Err(TableFault::Full);
+        }
+        self.cells[self.count] = record;
+        self.count += 1;
         Ok(())
     }
 
@@ -67,8 +73,9 @@ impl<'a, T: Copy> Table<'a, T> {
         ensures after { records self.new ≡ slice_set (records self.old) i «record» }
         ensures same { SameCells self.old self.new }
     {
-        let count = self.count;
-        put(self.cells, count, i, record);
+        if i < self.count {
+            self.cells[i] = record;
+        }
     }
 
     /// Keeps the first `len` records, or all where there are fewer.
@@ -76,12 +83,13 @@ impl<'a, T: Copy> Table<'a, T> {
         ensures after { records self.new ≡ take len (records self.old) }
         ensures same { SameCells self.old self.new }
     {
-        let count = self.count;
-        self.count = cut(self.cells, count, len);
+        self.count = self.count.min(len);
     }
 }
 
 impl<'a, T: Keyed + Copy> Table<'a, T> {
+    ghost use Rattle.wesl_table.specs.Tables.{records};
+
     /// The index of the first record that has the key.
     pub fn find(&self, text: &[u8], sought: &[u8]) -> Option<usize>
         ensures { First (λ x. T.key x text.now ≡ sought.now) (records self.now) 0 (length (records self.now)) result }
@@ -93,12 +101,11 @@ impl<'a, T: Keyed + Copy> Table<'a, T> {
     pub fn find_within(&self, low: usize, high: usize, text: &[u8], sought: &[u8]) -> Option<usize>
         ensures { First (λ x. T.key x text.now ≡ sought.now) (records self.now) low (min high (length (records self.now))) result }
     {
-        first_with(
-            counted(self.cells, self.count),
-            low,
-            high.min(self.len()),
-            text,
-            sought,
-        )
+        let high = high.min(self.len());
+        let part = self.records().get(low..high)?;
+        let i = part
+            .iter()
+            .position(|record| T::By::same_key(record.key_in(text), sought))?;
+        Some(low + i)
     }
 }

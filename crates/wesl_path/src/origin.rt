@@ -17,6 +17,7 @@ pub enum PathOrigin {
 }
 
 /// The origin of a path, and where its bytes end.
+// An end, and no rest: a module's path is cut there from the front, the path read from it from the back.
 #[derive(Clone, Copy, Debug, PartialEq, Eq)]
 pub struct Head {
     pub origin: PathOrigin,

@@ -39,6 +39,7 @@ impl Step {
 }
 
 /// How many words were passed, and where the last of them ends.
+// An end in the whole text, and no rest: a join cuts the text there, and a rest would have to be measured first.
 #[derive(Clone, Copy)]
 pub(crate) struct Passed {
     pub count: usize,

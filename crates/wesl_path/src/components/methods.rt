@@ -32,6 +32,7 @@ pub fn are_components(text: &[u8]) -> bool
 
 impl Components {
     /// Reads components, or refuses bytes that are none.
+    // A method and no `TryFrom`, whose clause would be a ghost member, and not stand here.
     #[tactic(auto, using(crate::proofs::ComponentFacts::test_from_components))]
     pub fn read(bytes: &[u8]) -> Result<Components, PathFault>
         ensures { MatchResult result (λ m. components_text m ≡ bytes.now) (λ e. (e ≡ PathFault.Malformed) × (AreComponents bytes.now → ⊥)) }

@@ -45,6 +45,7 @@ pub(crate) fn written(front: &[u8], sep: &[u8], back: &[u8]) -> Result<ModulePat
 
 impl ModulePath {
     /// Reads a path, or refuses bytes that are none.
+    // A method and no `TryFrom`, whose clause would be a ghost member, and not stand here.
     pub fn read(text: &[u8]) -> Result<ModulePath, PathFault>
         ensures { MatchResult result (λ m. path_text m ≡ text.now) (λ e. (e ≡ PathFault.Malformed) × (IsPath text.now → ⊥)) }
     {

@@ -62,6 +62,7 @@ pub fn is_plain(bytes: &[u8]) -> bool
 
 impl PlainName {
     /// Reads a plain name, or refuses bytes that are none.
+    // A method and no `TryFrom`, whose clause would be a ghost member, and not stand here.
     #[tactic(auto, using(crate::proofs::WordFacts::plain_short))]
     pub fn read(bytes: &[u8]) -> Result<PlainName, PathFault>
         ensures { MatchResult result (λ n. name_text n ≡ bytes.now) (λ e. (e ≡ PathFault.Malformed) × (plain bytes.now ≡ false)) }

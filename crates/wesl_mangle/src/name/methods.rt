@@ -6,24 +6,22 @@ ghost use Rattle.wesl_mangle.specs.Names.{mangled_text};
 
 use crate::mangler::Mangler;
 use crate::name::{LONGEST_MANGLED, MangledName};
-use wesl_path::{ModulePath, PlainName};
-
-fn named_by<M: Mangler>(mangler: &M, path: &ModulePath, item: &PlainName) -> MangledName
-    ensures { mangled_text result ≡ M.meaning mangler.now (path_value path.now) (name_text item.now) }
-{
-    let mut bytes = [0u8; LONGEST_MANGLED];
-    match mangler.mangle(path, item, &mut bytes) {
-        Ok(len) => MangledName { bytes, len },
-        Err(_) => unreachable(),
-    }
-}
+use wesl_path::{InlineBytes, ModulePath, PlainName};
 
 impl MangledName {
     /// What a Mangler calls an item of the module at a path. There is always room for it.
     pub fn of<M: Mangler>(mangler: &M, path: &ModulePath, item: &PlainName) -> MangledName
         ensures { mangled_text result ≡ M.meaning mangler.now (path_value path.now) (name_text item.now) }
     {
-        named_by(mangler, path, item)
+        let mut out = [0u8; LONGEST_MANGLED];
+        let Ok(len) = mangler.mangle(path, item, &mut out) else {
+            unreachable()
+        };
+        let mut text = InlineBytes::new();
+        let Ok(()) = text.push(&out[..len]) else {
+            unreachable()
+        };
+        MangledName { text }
     }
 
     /// The name's bytes.
@@ -31,7 +29,6 @@ impl MangledName {
         ensures value { result.now ≡ mangled_text self.now }
         ensures valid { is_word result.now ≡ true }
     {
-        let len = self.len;
-        &self.bytes[0..len]
+        self.text.as_slice()
     }
 }

@@ -1,5 +1,5 @@
 -- The words of a text from its first on.
-use Rattle.std.proofs.Common.{◌≡◌, ℕ, ◌+◌, ◌<◌, ◌≤◌, Bool, true, false, not, List, [], ◌∷◌, ◌++◌, length, get_or, take, drop, Some, None, cond, nat_lt, refl, sym, ap, ◌∙◌, ⊎_elim, one-add, arith}
+use Rattle.std.proofs.Common.{◌≡◌, ℕ, ◌+◌, ◌<◌, Bool, true, not, List, [], ◌∷◌, length, take, drop, Some, None, cond, nat_lt, refl, sym, ap, ◌∙◌, ⊎_elim, one-add, arith}
 use Rattle.std.specs.List.{position, position_or_len}
 use Rattle.std.proofs.lemmas.Bool.{cases_Bool, cond-true, cond-false, not-true, ltb-false}
 use Rattle.std.proofs.lemmas.List.{take_at, drop_at, drop_all, at_drop_more}

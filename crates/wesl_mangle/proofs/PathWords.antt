@@ -1,11 +1,10 @@
 -- A path's words, as the manglings write them.
-use Rattle.std.proofs.Common.{◌≡◌, ℕ, ◌⊎◌, List, [], ◌++◌, drop, refl, sym, ap, ◌∙◌, ⊎_elim}
+use Rattle.std.proofs.Common.{◌≡◌, ℕ, ◌⊎◌, [], ◌++◌, drop, refl, sym, ap, ◌∙◌, ⊎_elim}
 use Rattle.wesl_path.specs.Heads.{kind_of, HeadOf}
 use Rattle.wesl_path.specs.Path.{Origin, absolute, relative, packaged, words, origin_words, path_words}
 use Rattle.wesl_path.specs.Texts.{path_text, path_value}
 use Rattle.wesl_path.specs.declared.module_path.ModulePath.{ModulePath}
 use Rattle.wesl_path.specs.declared.origin.Head.{Head}
-use Rattle.wesl_path.specs.declared.origin.PathOrigin.{PathOrigin}
 use Rattle.wesl_path.specs.declared.origin.PathOrigin.TheVariants.{Absolute, Relative, Package}
 use Rattle.wesl_path.proofs.PathFacts.{words_of_path, words_components}
 use Rattle.wesl_mangle.specs.Counted.{package_parts}

@@ -1,10 +1,10 @@
 //! The escape mangling, WESL's own: `_` parts the words, and a word that has underscores is led by `_` and their number.
-ghost use Rattle.std.specs.Prelude.{◌≡◌, take, IfOk};
+ghost use Rattle.std.specs.Prelude.{◌≡◌, take, codes, IfOk};
 ghost use Rattle.wesl_path.specs.Path.{path_words};
 ghost use Rattle.wesl_path.specs.Texts.{path_value, name_text};
-ghost use Rattle.wesl_mangle.specs.Escape.{escape, escaped, package_lead, unescape};
+ghost use Rattle.wesl_mangle.specs.Escape.{underscores, escape, escaped, package_lead, unescape};
 ghost use Rattle.wesl_mangle.specs.Writes.{Answered};
-ghost use Rattle.wesl_mangle.specs.Escapes.{ended, escape_as_words, escape_back, escape_apart};
+ghost use Rattle.wesl_mangle.specs.Escapes.{escape_as_words, escape_back, escape_apart};
 ghost use Rattle.wesl_mangle.specs.EscapeNames.{escape_named};
 
 use crate::fault::MangleFault;
@@ -17,14 +17,21 @@ use wesl_path::{ModulePath, PathOrigin, PlainName};
 #[derive(Clone, Copy)]
 pub struct EscapeMangler {}
 
+#[tactic(auto, unfolding(crate::specs::Escape::underscores))]
+fn count_underscores(word: &[u8]) -> usize
+    ensures { result ≡ underscores word.now }
+{
+    word.iter().filter(|b| **b == b'_').count()
+}
+
 impl Wording for EscapeMangler {
     ghost lead = { package_lead };
 
-    ghost told = { path_words };
+    ghost words_of = { path_words };
 
-    ghost worded = { ended };
+    ghost written = { escaped };
 
-    ghost ending = { escaped };
+    ghost end = { codes "_" };
 
     ghost whole = { escape };
 
@@ -44,17 +51,23 @@ impl Wording for EscapeMangler {
         }
     }
 
-    fn words_told(path: &ModulePath) -> &[u8] {
+    fn words_text(path: &ModulePath) -> &[u8] {
         path.as_bytes()
     }
 
+    /// A word with underscores is led by `_` and their number.
+    #[tactic(auto, unfolding(crate::specs::Escape::escaped))]
     fn push_word(name: &mut NameText, word: &[u8]) {
-        name.push_escaped(word);
-        name.push(b"_");
+        let underscores = count_underscores(word);
+        if underscores > 0 {
+            name.push(b"_");
+            name.push_decimal(underscores);
+        }
+        name.push(word);
     }
 
-    fn push_ending(name: &mut NameText, word: &[u8]) {
-        name.push_escaped(word);
+    fn ending() -> &'static [u8] {
+        b"_"
     }
 }
 

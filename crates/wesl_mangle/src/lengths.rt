@@ -1,9 +1,9 @@
 //! The mangling by lengths: each word is led by its length.
-ghost use Rattle.std.specs.Prelude.{◌≡◌, ◌++◌, take, IfOk};
+ghost use Rattle.std.specs.Prelude.{◌≡◌, [], ◌++◌, take, IfOk};
 ghost use Rattle.wesl_path.specs.Texts.{path_value, name_text};
 ghost use Rattle.wesl_mangle.specs.Counted.{counted, counted_origin, package_parts, by_lengths, from_lengths};
 ghost use Rattle.wesl_mangle.specs.Writes.{Answered};
-ghost use Rattle.wesl_mangle.specs.Counts.{lengths_as_words, lengths_back, lengths_apart};
+ghost use Rattle.wesl_mangle.specs.Counts.{lengths_in_words, lengths_back, lengths_apart};
 ghost use Rattle.wesl_mangle.specs.CountNames.{lengths_named};
 
 use crate::fault::MangleFault;
@@ -19,17 +19,17 @@ pub struct LengthMangler {}
 impl Wording for LengthMangler {
     ghost lead = { counted_origin };
 
-    ghost told = { λ p. package_parts p.origin ++ p.components };
+    ghost words_of = { λ p. package_parts p.origin ++ p.components };
 
-    ghost worded = { counted };
+    ghost written = { counted };
 
-    ghost ending = { counted };
+    ghost end = { [] };
 
     ghost whole = { by_lengths };
 
     ghost back = { from_lengths };
 
-    ghost in_words = { lengths_as_words };
+    ghost in_words = { lengths_in_words };
 
     ghost goes_back = { lengths_back };
 
@@ -45,7 +45,7 @@ impl Wording for LengthMangler {
     }
 
     /// A package's own name is written, and that of no other origin.
-    fn words_told(path: &ModulePath) -> &[u8] {
+    fn words_text(path: &ModulePath) -> &[u8] {
         let head = path.head();
         match head.origin {
             PathOrigin::Package(_) => path.as_bytes(),
@@ -53,12 +53,17 @@ impl Wording for LengthMangler {
         }
     }
 
+    /// A word is led by its length.
+    #[tactic(auto, unfolding(crate::specs::Counted::counted))]
     fn push_word(name: &mut NameText, word: &[u8]) {
-        name.push_counted(word);
+        name.push_decimal(word.len());
+        name.push(b"_");
+        name.push(word);
     }
 
-    fn push_ending(name: &mut NameText, word: &[u8]) {
-        name.push_counted(word);
+    /// The next word's length is enough.
+    fn ending() -> &'static [u8] {
+        b""
     }
 }
 

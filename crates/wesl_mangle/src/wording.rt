@@ -1,30 +1,30 @@
 //! How the words of a declaration make its name, the same way for each Mangler of this crate.
-ghost use Rattle.std.specs.Prelude.{◌≡◌, ℕ, ◌+◌, ◌<◌, ◌≤◌, not, List, [], ◌∷◌, ◌++◌, length, take, position, MatchOption, IfSome, IfOk};
+ghost use Rattle.std.specs.Prelude.{◌≡◌, ℕ, ◌<◌, not, List, [], ◌∷◌, ◌++◌, length, take, position, MatchOption, IfSome, IfOk};
 ghost use Rattle.std.specs.List.{flat_map};
 ghost use Rattle.wesl_path.specs.Path.{Origin, Path, parts_words, words};
 ghost use Rattle.wesl_path.specs.Texts.{path_value, name_text};
 ghost use Rattle.wesl_mangle.specs.Mangle.{Item};
 ghost use Rattle.wesl_mangle.specs.Laws.{Mangling, GoesBack, Named};
-ghost use Rattle.wesl_mangle.specs.Writes.{Answered};
+ghost use Rattle.wesl_mangle.specs.Writes.{HasRoom, Answered};
 
 use crate::fault::MangleFault;
 use crate::write::NameText;
 use wesl_path::words::word_end;
 use wesl_path::{ModulePath, PlainName};
 
-/// A name is what leads its words, the words of the path, each with what belongs to it, and the item's name.
+/// A name is what leads it, the words of the path, each with what ends it, and the item's name, written as a word.
 pub(crate) trait Wording {
     /// what leads the words
     ghost lead: { Origin → List ℕ };
 
     /// the words of a path that are written
-    ghost told: { Path → List (List ℕ) };
+    ghost words_of: { Path → List (List ℕ) };
 
-    /// a word of a path as it is written
-    ghost worded: { List ℕ → List ℕ };
+    /// a word as it is written
+    ghost written: { List ℕ → List ℕ };
 
-    /// the item's name as it is written
-    ghost ending: { List ℕ → List ℕ };
+    /// what ends a word before the next
+    ghost end: { List ℕ };
 
     /// the whole name
     ghost whole: { Mangling };
@@ -34,25 +34,24 @@ pub(crate) trait Wording {
 
     /// Writes what leads the words.
     fn push_lead(name: &mut NameText, path: &ModulePath)
-        requires { length name.old + length (lead (path_value path.now).origin) ≤ 1024 }
+        requires { HasRoom name.old (lead (path_value path.now).origin) }
         ensures { name.new ≡ name.old ++ lead (path_value path.now).origin };
 
-    /// The text of the words that are written.
-    fn words_told(path: &ModulePath) -> &[u8]
-        ensures { words result.now ≡ told (path_value path.now) };
+    /// The text whose words are written.
+    fn words_text(path: &ModulePath) -> &[u8]
+        ensures { words result.now ≡ words_of (path_value path.now) };
 
-    /// Writes a word of a path.
+    /// Writes a word.
     fn push_word(name: &mut NameText, word: &[u8])
-        requires { length name.old + length (worded word.now) ≤ 1024 }
-        ensures { name.new ≡ name.old ++ worded word.now };
+        requires { HasRoom name.old (written word.now) }
+        ensures { name.new ≡ name.old ++ written word.now };
 
-    /// Writes the item's name.
-    fn push_ending(name: &mut NameText, word: &[u8])
-        requires { length name.old + length (ending word.now) ≤ 1024 }
-        ensures { name.new ≡ name.old ++ ending word.now };
+    /// What ends a word before the next.
+    fn ending() -> &'static [u8]
+        ensures { result.now ≡ end };
 
     // a name is its words
-    ghost in_words: { (p : Path) (i : List ℕ) → whole p i ≡ lead p.origin ++ (flat_map worded (told p) ++ ending i) };
+    ghost in_words: { (p : Path) (i : List ℕ) → whole p i ≡ lead p.origin ++ (flat_map (λ w. written w ++ end) (words_of p) ++ written i) };
 
     // a name tells its declaration
     ghost goes_back: { GoesBack whole back };
@@ -80,12 +79,14 @@ fn next_word(text: &[u8]) -> Option<(&[u8], &[u8])>
 
 /// Writes the words of a text.
 fn push_words<W: Wording>(name: &mut NameText, text: &[u8])
-    requires { length name.old + length (flat_map W.worded (words text.now)) ≤ 1024 }
-    ensures { name.new ≡ name.old ++ flat_map W.worded (words text.now) }
+    requires { HasRoom name.old (flat_map (λ w. W.written w ++ W.end) (words text.now)) }
+    ensures { name.new ≡ name.old ++ flat_map (λ w. W.written w ++ W.end) (words text.now) }
 {
     let mut rest = text;
+    // A `for` over `split` was tried: the check refuses the invariant of such a loop in a generic function.
     while let Some((word, more)) = next_word(rest) {
         W::push_word(name, word);
+        name.push(W::ending());
         rest = more;
     }
 }
@@ -96,8 +97,8 @@ fn write_name<W: Wording>(path: &ModulePath, item: &PlainName) -> NameText
 {
     let mut name = NameText::new();
     W::push_lead(&mut name, path);
-    push_words::<W>(&mut name, W::words_told(path));
-    W::push_ending(&mut name, item.as_bytes());
+    push_words::<W>(&mut name, W::words_text(path));
+    W::push_word(&mut name, item.as_bytes());
     name
 }
 

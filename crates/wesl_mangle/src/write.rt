@@ -1,8 +1,6 @@
 //! A name while it is written.
-ghost use Rattle.std.specs.Prelude.{◌≡◌, ◌+◌, ◌≤◌, [], ◌++◌, length, codes, decimal};
-ghost use Rattle.wesl_mangle.specs.Escape.{underscores, escaped};
-ghost use Rattle.wesl_mangle.specs.Counted.{counted};
-ghost use Rattle.wesl_mangle.specs.Writes.{Answered};
+ghost use Rattle.std.specs.Prelude.{◌≡◌, [], ◌++◌, codes, decimal};
+ghost use Rattle.wesl_mangle.specs.Writes.{HasRoom, Answered};
 
 use crate::fault::MangleFault;
 use crate::name::LONGEST_MANGLED;
@@ -25,12 +23,6 @@ impl Model for NameText {
     ghost view = { λ n. held n.bytes };
 }
 
-fn count_underscores(word: &[u8]) -> usize
-    ensures { result ≡ underscores word.now }
-{
-    word.iter().filter(|b| **b == b'_').count()
-}
-
 impl NameText {
     /// Nothing is written yet.
     pub(crate) fn new() -> NameText
@@ -43,7 +35,7 @@ impl NameText {
 
     /// Writes bytes.
     pub(crate) fn push(&mut self, bytes: &[u8])
-        requires { length self.old + length bytes.now ≤ 1024 }
+        requires { HasRoom self.old bytes.now }
         ensures { self.new ≡ self.old ++ bytes.now }
     {
         let Ok(()) = self.bytes.push(bytes) else {
@@ -52,8 +44,8 @@ impl NameText {
     }
 
     /// Writes a number in decimal.
-    fn push_decimal(&mut self, n: usize)
-        requires { length self.old + length (decimal n) ≤ 1024 }
+    pub(crate) fn push_decimal(&mut self, n: usize)
+        requires { HasRoom self.old (decimal n) }
         ensures { self.new ≡ self.old ++ decimal n }
     {
         self.push(Buffer::new().format(n).as_bytes());
@@ -61,35 +53,12 @@ impl NameText {
 
     /// Writes a text, a number and `_`.
     pub(crate) fn push_numbered(&mut self, front: &[u8], n: usize)
-        requires { length self.old + length (front.now ++ (decimal n ++ codes "_")) ≤ 1024 }
+        requires { HasRoom self.old (front.now ++ (decimal n ++ codes "_")) }
         ensures { self.new ≡ self.old ++ (front.now ++ (decimal n ++ codes "_")) }
     {
         self.push(front);
         self.push_decimal(n);
         self.push(b"_");
-    }
-
-    /// Writes a word as the escape mangling does: one with underscores after `_` and their number.
-    pub(crate) fn push_escaped(&mut self, word: &[u8])
-        requires { length self.old + length (escaped word.now) ≤ 1024 }
-        ensures { self.new ≡ self.old ++ escaped word.now }
-    {
-        let n = count_underscores(word);
-        if n > 0 {
-            self.push(b"_");
-            self.push_decimal(n);
-        }
-        self.push(word);
-    }
-
-    /// Writes a word after its length.
-    pub(crate) fn push_counted(&mut self, word: &[u8])
-        requires { length self.old + length (counted word.now) ≤ 1024 }
-        ensures { self.new ≡ self.old ++ counted word.now }
-    {
-        self.push_decimal(word.len());
-        self.push(b"_");
-        self.push(word);
     }
 
     /// Hands the name over to the caller's buffer, where it fits.

@@ -1,4 +1,4 @@
-use Rattle.std.proofs.Common.{length, arith, ap}
+use Rattle.std.proofs.Common.{◌++◌, length, arith, ap}
 use Rattle.std.specs.List.{flat_map}
 use Rattle.std.proofs.lemmas.List.{length-append}
 use Rattle.wesl_path.specs.Texts.{path_value, name_text}
@@ -22,18 +22,18 @@ push_words-requires g c =
     let whole = simp length-append at (ap length (g.met.W.Wording.in_words p i)) in
     let new = ap length c.new-name.ensures in
     let lead = simp length-append at (ap length c.push_lead.ensures) in
-    let told = ap (λ ws. length (flat_map g.W.Wording.worded ws)) c.words_told.ensures in
+    let told = ap (λ ws. length (flat_map (λ w. g.W.Wording.written w ++ g.W.Wording.end) ws)) c.words_text.ensures in
     omega arith
 
-pub push_ending-requires : goal.push_ending-requires
-push_ending-requires g c =
+pub push_word-requires : goal.push_word-requires
+push_word-requires g c =
     let p = path_value c.args.path.now in
     let i = name_text c.args.item.now in
     let short = (g.met.W.Wording.named p i (path_sound c.args.path.now) (name_plain c.args.item.now)).short in
     let whole = simp length-append at (ap length (g.met.W.Wording.in_words p i)) in
     let new = ap length c.new-name.ensures in
     let lead = simp length-append at (ap length c.push_lead.ensures) in
-    let told = ap (λ ws. length (flat_map g.W.Wording.worded ws)) c.words_told.ensures in
+    let told = ap (λ ws. length (flat_map (λ w. g.W.Wording.written w ++ g.W.Wording.end) ws)) c.words_text.ensures in
     let words = simp length-append at (ap length c.push_words.ensures) in
-    let item = ap (λ w. length (g.W.Wording.ending w)) c.as_bytes.ensures.value in
+    let item = ap (λ w. length (g.W.Wording.written w)) c.as_bytes.ensures.value in
     omega arith

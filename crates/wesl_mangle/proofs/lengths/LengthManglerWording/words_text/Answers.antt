@@ -2,7 +2,7 @@ use Rattle.std.proofs.Common.{ℕ, drop, arith, sym, ap, ◌∙◌}
 use Rattle.std.proofs.lemmas.List.{take_all, length-drop}
 use Rattle.wesl_path.specs.Path.{words}
 use Rattle.wesl_mangle.proofs.PathWords.{package_words, other_words}
-use Rattle.wesl_mangle.proofs.lengths.LengthManglerWording.words_told.Goals as goal
+use Rattle.wesl_mangle.proofs.lengths.LengthManglerWording.words_text.Goals as goal
 
 pub returns-in-Package : goal.returns-in-Package
 returns-in-Package c = ap words c.as_bytes.ensures.value ∙ package_words c.args.path.now c.in-Package.field-0 (sym c.head-head.ensures.kind ∙ c.in-Package.is)

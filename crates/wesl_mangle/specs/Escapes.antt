@@ -40,8 +40,11 @@ led_ended : (ws : List (List ℕ)) (x : List ℕ) → led (codes "_") (map escap
 led_ended [] x = refl
 led_ended (w ∷ ws) x = ap (λ r. 95 ∷ r) (append_assoc (escaped w) _ _ ∙ ap (λ r. escaped w ++ r) (led_ended ws x) ∙ simp append_assoc)
 
+led_append : (lead : List ℕ) (vs ws : List (List ℕ)) → led lead (vs ++ ws) ≡ led lead vs ++ led lead ws
+led_append lead vs ws = flat_map-append (λ w. lead ++ w) vs ws
+
 led_both : (vs ws : List (List ℕ)) (x : List ℕ) → led (codes "_") (map escaped vs) ++ (led (codes "_") (map escaped ws) ++ (95 ∷ x)) ≡ 95 ∷ (flat_map ended (vs ++ ws) ++ x)
-led_both vs ws x = sym (append_assoc (led (codes "_") (map escaped vs)) _ _) ∙ ap (λ r. r ++ (95 ∷ x)) (sym (flat_map-append (λ w. codes "_" ++ w) (map escaped vs) (map escaped ws)) ∙ ap (led (codes "_")) (sym (map-append escaped vs ws))) ∙ led_ended (vs ++ ws) x
+led_both vs ws x = sym (append_assoc (led (codes "_") (map escaped vs)) _ _) ∙ ap (λ r. r ++ (95 ∷ x)) (sym (led_append (codes "_") (map escaped vs) (map escaped ws)) ∙ ap (led (codes "_")) (sym (map-append escaped vs ws))) ∙ led_ended (vs ++ ws) x
 
 map_supers : (n : ℕ) → map escaped (replicate n (codes "super")) ≡ replicate n (codes "super")
 map_supers zero = refl

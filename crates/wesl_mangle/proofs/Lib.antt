@@ -1,2 +1,4 @@
-pub mod WriteFacts
+pub mod Kept
+pub mod NextWord
 pub mod PathWords
+pub mod Names

@@ -20,6 +20,14 @@ pub lengths_as_words : (p : Path) (i : List ℕ) → by_lengths p i ≡ counted_
 unfolding by_lengths
 lengths_as_words p i = refl
 
+-- the same with what ends each word, which is nothing
+ended_by_nothing : (ws : List (List ℕ)) → flat_map (λ w. counted w ++ []) ws ≡ flat_map counted ws
+ended_by_nothing [] = refl
+ended_by_nothing (w ∷ ws) = rw (append-nil (counted w), ended_by_nothing ws) refl
+
+pub lengths_in_words : (p : Path) (i : List ℕ) → by_lengths p i ≡ counted_origin p.origin ++ (flat_map (λ w. counted w ++ []) (package_parts p.origin ++ p.components) ++ counted i)
+lengths_in_words p i = lengths_as_words p i ∙ ap (λ ws. counted_origin p.origin ++ (ws ++ counted i)) (sym (ended_by_nothing (package_parts p.origin ++ p.components)))
+
 parts_plain : (o : Origin) → PlainOrigin o → AllByRecursion Plain (package_parts o)
 parts_plain absolute h = tt
 parts_plain (relative n) h = tt

@@ -6,6 +6,7 @@ use Rattle.std.proofs.lemmas.List.{append_assoc, append-nil, map-append}
 use Rattle.std.proofs.lemmas.List.Sums.{sum_by-cons, count_by-le-length}
 use Rattle.std.proofs.lemmas.Bool.{true≢false, not-true, cases_Bool, cond-true, cond-false, eqb-true}
 use Rattle.std.proofs.lemmas.Fmt.{decimal_nonempty}
+use Rattle.std.proofs.lemmas.Grind.{flat_map-append}
 use Rattle.wesl_path.specs.Name.{digit, starts_well_text, Plain}
 use Rattle.wesl_path.specs.Path.{Origin, absolute, relative, packaged, Path, Sound, led, origin_words, path_words}
 use Rattle.wesl_mangle.specs.Mangle.{ended_item, in_package}
@@ -40,8 +41,7 @@ led_ended [] x = refl
 led_ended (w ∷ ws) x = ap (λ r. 95 ∷ r) (append_assoc (escaped w) _ _ ∙ ap (λ r. escaped w ++ r) (led_ended ws x) ∙ simp append_assoc)
 
 led_append : (lead : List ℕ) (vs ws : List (List ℕ)) → led lead (vs ++ ws) ≡ led lead vs ++ led lead ws
-led_append lead [] ws = refl
-led_append lead (v ∷ vs) ws = ap (λ r. (lead ++ v) ++ r) (led_append lead vs ws) ∙ sym (append_assoc (lead ++ v) _ _)
+led_append lead vs ws = flat_map-append (λ w. lead ++ w) vs ws
 
 led_both : (vs ws : List (List ℕ)) (x : List ℕ) → led (codes "_") (map escaped vs) ++ (led (codes "_") (map escaped ws) ++ (95 ∷ x)) ≡ 95 ∷ (flat_map ended (vs ++ ws) ++ x)
 led_both vs ws x = sym (append_assoc (led (codes "_") (map escaped vs)) _ _) ∙ ap (λ r. r ++ (95 ∷ x)) (sym (led_append (codes "_") (map escaped vs) (map escaped ws)) ∙ ap (led (codes "_")) (sym (map-append escaped vs ws))) ∙ led_ended (vs ++ ws) x

@@ -1,55 +1,74 @@
 //! The escape mangling, WESL's own: `_` parts the words, and a word that has underscores is led by `_` and their number.
-ghost use Rattle.std.specs.Prelude.{◌≡◌, ◌<◌, ◌≤◌, length, take, IfOk};
+ghost use Rattle.std.specs.Prelude.{◌≡◌, take, codes, IfOk};
+ghost use Rattle.wesl_path.specs.Path.{path_words};
 ghost use Rattle.wesl_path.specs.Texts.{path_value, name_text};
-ghost use Rattle.wesl_mangle.specs.Escape.{escape, unescape};
-ghost use Rattle.wesl_mangle.specs.Writes.{Answered, Appended, lead_of_kind, count_of_kind};
-ghost use Rattle.wesl_mangle.specs.Escapes.{escape_apart};
+ghost use Rattle.wesl_mangle.specs.Escape.{underscores, escape, escaped, package_lead, unescape};
+ghost use Rattle.wesl_mangle.specs.Writes.{Answered};
+ghost use Rattle.wesl_mangle.specs.Escapes.{escape_as_words, escape_back, escape_apart};
 ghost use Rattle.wesl_mangle.specs.EscapeNames.{escape_named};
 
 use crate::fault::MangleFault;
 use crate::mangler::Mangler;
-use crate::name::LONGEST_MANGLED;
-use crate::write::{WordStyle, append_escaped, append_numbered, append_words, deliver};
+use crate::wording::{Wording, give_name};
+use crate::write::NameText;
 use wesl_path::{ModulePath, PathOrigin, PlainName};
 
 /// The Mangler of WESL: `package::my_mod` and `a_b` give `package__1my_mod__1a_b`.
 #[derive(Clone, Copy)]
 pub struct EscapeMangler {}
 
-/// Writes what leads the parts of a package: nothing before a single one.
-fn append_lead(cell: &mut [u8], origin: PathOrigin) -> usize
-    requires small { count_of_kind origin < 1000 }
-    requires room { length (lead_of_kind origin) ≤ length cell.old }
-    ensures { Appended (lead_of_kind origin) cell.old cell.new 0 result }
+#[tactic(auto, unfolding(crate::specs::Escape::underscores))]
+fn count_underscores(word: &[u8]) -> usize
+    ensures { result ≡ underscores word.now }
 {
-    match origin {
-        PathOrigin::Absolute | PathOrigin::Relative(_) => 0,
-        PathOrigin::Package(parts) => {
-            if parts <= 1 {
-                return 0;
-            }
-            append_numbered(cell, b"import_", parts)
+    word.iter().filter(|b| **b == b'_').count()
+}
+
+impl Wording for EscapeMangler {
+    ghost lead = { package_lead };
+
+    ghost words_of = { path_words };
+
+    ghost written = { escaped };
+
+    ghost end = { codes "_" };
+
+    ghost whole = { escape };
+
+    ghost back = { unescape };
+
+    ghost in_words = { escape_as_words };
+
+    ghost goes_back = { escape_back };
+
+    ghost named = { escape_named };
+
+    /// `import` and the number of the parts, before a package of several.
+    fn push_lead(name: &mut NameText, path: &ModulePath) {
+        match path.origin() {
+            PathOrigin::Package(parts) if parts > 1 => name.push_numbered(b"import_", parts),
+            _ => {}
         }
     }
-}
 
-fn write_name(cell: &mut [u8], path: &ModulePath, item: &PlainName) -> usize
-    requires { length cell.old ≡ 1024 }
-    ensures name { Appended (escape (path_value path.now) (name_text item.now)) cell.old cell.new 0 result }
-    ensures short { result ≤ 1024 }
-{
-    let led = append_lead(cell, path.origin());
-    let told = append_words(WordStyle::Escaped, path.as_bytes(), 0, cell, led);
-    append_escaped(cell, told, item.as_bytes())
-}
+    fn words_text(path: &ModulePath) -> &[u8] {
+        path.as_bytes()
+    }
 
-fn give_name(path: &ModulePath, item: &PlainName, out: &mut [u8]) -> Result<usize, MangleFault>
-    ensures answer { Answered (escape (path_value path.now) (name_text item.now)) out.old out.new result }
-    ensures back { IfOk result (λ n. unescape (take n out.new) ≡ record { path = path_value path.now; name = name_text item.now }) }
-{
-    let mut cell = [0u8; LONGEST_MANGLED];
-    let end = write_name(&mut cell, path, item);
-    deliver(&cell, end, out)
+    /// A word with underscores is led by `_` and their number.
+    #[tactic(auto, unfolding(crate::specs::Escape::escaped))]
+    fn push_word(name: &mut NameText, word: &[u8]) {
+        let underscores = count_underscores(word);
+        if underscores > 0 {
+            name.push(b"_");
+            name.push_decimal(underscores);
+        }
+        name.push(word);
+    }
+
+    fn ending() -> &'static [u8] {
+        b"_"
+    }
 }
 
 impl Mangler for EscapeMangler {
@@ -68,6 +87,6 @@ impl Mangler for EscapeMangler {
         ensures answer { Answered (escape (path_value path.now) (name_text item.now)) out.old out.new result }
         ensures back { IfOk result (λ n. unescape (take n out.new) ≡ record { path = path_value path.now; name = name_text item.now }) }
     {
-        give_name(path, item, out)
+        give_name::<EscapeMangler>(path, item, out)
     }
 }

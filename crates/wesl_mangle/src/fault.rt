@@ -3,7 +3,7 @@ ghost use Rattle.std.specs.Prelude.{◌≡◌};
 ghost use Rattle.wesl_mangle.specs.Faults.{number_of};
 
 /// Why a name is not written.
-#[derive(Clone, Copy)]
+#[derive(Clone, Copy, Debug, PartialEq, Eq)]
 pub enum MangleFault {
     /// the buffer is too small for the name
     NoRoom,

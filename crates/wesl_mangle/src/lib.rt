@@ -7,6 +7,7 @@ pub mod fault;
 pub mod lengths;
 pub mod mangler;
 pub mod name;
+mod wording;
 mod write;
 
 pub use escape::EscapeMangler;

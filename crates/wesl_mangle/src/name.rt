@@ -1,8 +1,11 @@
 //! A mangled name, kept in its type.
 ghost use Rattle.std.specs.Prelude.{◌≡◌, ◌≤◌, true, take};
+ghost use Rattle.wesl_path.specs.Inline.{held};
+ghost use Rattle.wesl_path.specs.Texts.{path_value, name_text};
 ghost use Rattle.wesl_mangle.specs.Mangle.{is_word};
 
-pub mod methods;
+use crate::mangler::Mangler;
+use wesl_path::{InlineBytes, ModulePath, PlainName};
 
 /// A mangled name has at most so many bytes.
 pub const LONGEST_MANGLED: usize = 1024;
@@ -10,8 +13,48 @@ pub const LONGEST_MANGLED: usize = 1024;
 /// A name in the output: 1 to 1,024 letters, digits and underscores, no digit first.
 #[derive(Clone, Copy)]
 pub struct MangledName {
-    bytes: [u8; 1024],
-    len: usize,
-    ghost within: { len ≤ 1024 },
-    ghost word: { is_word (take len bytes) ≡ true },
+    text: InlineBytes<LONGEST_MANGLED>,
+    ghost word: { is_word (held text) ≡ true },
+}
+
+/// Writes what a Mangler calls an item, and answers its length: there is always room for it.
+fn mangle_into<M: Mangler>(
+    mangler: &M,
+    path: &ModulePath,
+    item: &PlainName,
+    out: &mut [u8; LONGEST_MANGLED],
+) -> usize
+    ensures within { result ≤ 1024 }
+    ensures name { take result out.new ≡ M.meaning mangler.now (path_value path.now) (name_text item.now) }
+    ensures word { is_word (take result out.new) ≡ true }
+{
+    let Ok(len) = mangler.mangle(path, item, out) else {
+        unreachable()
+    };
+    len
+}
+
+impl MangledName {
+    ghost use Rattle.wesl_mangle.specs.Names.{mangled_text};
+
+    /// What a Mangler calls an item of the module at a path.
+    pub fn of<M: Mangler>(mangler: &M, path: &ModulePath, item: &PlainName) -> MangledName
+        ensures { mangled_text result ≡ M.meaning mangler.now (path_value path.now) (name_text item.now) }
+    {
+        let mut out = [0u8; LONGEST_MANGLED];
+        let len = mangle_into(mangler, path, item, &mut out);
+        let mut text = InlineBytes::new();
+        let Ok(()) = text.push(&out[..len]) else {
+            unreachable()
+        };
+        MangledName { text }
+    }
+
+    /// The name's bytes.
+    pub fn as_bytes(&self) -> &[u8]
+        ensures value { result.now ≡ mangled_text self.now }
+        ensures valid { is_word result.now ≡ true }
+    {
+        self.text.as_slice()
+    }
 }

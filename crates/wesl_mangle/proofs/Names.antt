@@ -1,0 +1,27 @@
+-- Names that are handed over.
+use Rattle.std.proofs.Common.{◌≡◌, true, ℕ, ◌≤◌, List, length, take, drop, IfOk, Ok, Err, Result, sym, ap, ◌∙◌, arith}
+use Rattle.std.proofs.lemmas.List.{take_at}
+use Rattle.std.proofs.lemmas.Bool.{and_from}
+use Rattle.wesl_path.specs.Name.{word_bytes, starts_well_text}
+use Rattle.wesl_mangle.specs.Mangle.{Item, Identifier, is_word}
+use Rattle.wesl_mangle.specs.Writes.{Answered}
+use Rattle.wesl_mangle.specs.declared.fault.MangleFault.{MangleFault}
+use Rattle.wesl_mangle.specs.declared.fault.MangleFault.TheVariants.{NoRoom}
+
+-- the front of a buffer to which a text was delivered
+pub delivered : (what was new : List ℕ) (n : ℕ) → Answered what was new (Ok n) → take n new ≡ what
+delivered what was new n h = let k : length what ≡ n = sym h.0 in ap (take n) h.2 ∙ take_at what (drop n was) n k
+
+-- a delivered identifier is a word of the output
+pub delivered_word : (what was new : List ℕ) (n : ℕ) → Answered what was new (Ok n) → Identifier what → is_word (take n new) ≡ true
+unfolding is_word
+delivered_word what was new n h k = rw (delivered what was new n h) (and_from (starts_well_text what) (word_bytes what) k.starts k.bytes)
+
+-- what was delivered can be read back
+pub answered_back : (what was new : List ℕ) (r : Result ℕ MangleFault) (read : List ℕ → Item) (x : Item) → Answered what was new r → read what ≡ x → IfOk r (λ n. read (take n new) ≡ x)
+answered_back what was new (Ok n) read x h e = ap read (delivered what was new n h) ∙ e
+answered_back what was new (Err NoRoom) read x h e = tt
+
+-- a refusal says that there was no room
+pub room_enough : (what was new : List ℕ) (x : MangleFault) → Answered what was new (Err x) → length what ≤ 1024 → length was ≡ 1024 → ⊥
+room_enough what was new NoRoom h l m = let k = h.0 in omega arith

@@ -20,19 +20,6 @@ pub struct FaultCell {
     bytes: [u8; CELL_SIZE],
 }
 
-/// The fault that there is no module at a path, where no module holds the reference to it.
-fn miss(path: &ModulePath, cell: &mut FaultCell) -> ResolveFault
-    ensures { Missed (path_text path.now) cell.old cell.new result }
-{
-    let bytes = path.as_bytes();
-    put(&mut cell.bytes, PATH_START, bytes);
-    let path = Some(Place {
-        start: PATH_START,
-        len: bytes.len(),
-    });
-    ResolveFault::Missing { module: None, path }
-}
-
 impl FaultCell {
     /// A cell without bytes of a fault.
     pub fn new() -> FaultCell
@@ -55,6 +42,12 @@ impl FaultCell {
     pub fn not_found(&mut self, path: &ModulePath) -> ResolveFault
         ensures { Missed (path_text path.now) self.old self.new result }
     {
-        miss(path, self)
+        let bytes = path.as_bytes();
+        put(&mut self.bytes, PATH_START, bytes);
+        let path = Some(Place {
+            start: PATH_START,
+            len: bytes.len(),
+        });
+        ResolveFault::Missing { module: None, path }
     }
 }

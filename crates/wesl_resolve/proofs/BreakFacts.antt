@@ -24,10 +24,6 @@ module _ (text first : List ℕ) (ls : List (List ℕ)) (is : lines text ≡ fir
   at_lines : (i : ℕ) → Breaks (first ∷ ls) i → Breaks (lines text) i
   at_lines i = subst (λ (all : List (List ℕ)). Breaks all i) (sym is)
 
-  -- the first of all leads no module
-  pub broken_first : (Leads first → ⊥) → BrokenAt text 0
-  broken_first n = record { breaks = at_lines 0 (omega arith, n, inr (λ k h. absurd (omega arith))); before = λ k h. absurd (omega arith); within = within 0 (omega arith) }
-
   module _ (leads : Leads first) where
     -- where the first leads one, a line breaks the bundle just where it strays
     settled : (i : ℕ) → ((d : List ℕ) → Strays (slice_index_or ls i d) → ⊥) → Breaks (first ∷ ls) (suc i) → ⊥

@@ -1,5 +1,5 @@
 -- Lines that lead a module, and the modules that they lead.
-use Rattle.std.proofs.Common.{◌≡◌, ℕ, zero, suc, ◌+◌, ◌-◌, ◌<◌, ◌≤◌, Bool, true, false, List, [], ◌∷◌, ◌++◌, length, take, drop, codes, Some, None, Option, is_some, slice_get, Bor, MatchOption, IfSome, IsSomeAnd, Decides, sym, refl, ap, ◌∙◌, subst, inl, inr, arith, length-append}
+use Rattle.std.proofs.Common.{◌≡◌, ℕ, suc, ◌+◌, ◌-◌, ◌<◌, ◌≤◌, Bool, true, false, List, [], ◌∷◌, ◌++◌, length, take, drop, codes, Some, None, Option, is_some, slice_get, Bor, MatchOption, IfSome, IsSomeAnd, Decides, sym, refl, ap, ◌∙◌, subst, inl, inr, arith, length-append}
 use Rattle.std.specs.Bool.{then_some}
 use Rattle.std.specs.Iterator.Runs.{Run, YieldsRun, AllItems}
 use Rattle.std.specs.Iterator.{Yields, YieldsFirstBy}
@@ -20,7 +20,7 @@ use Rattle.wesl_resolve.specs.Bundles.{lead, Leads, led_path, leads, body, led, 
 use Rattle.wesl_resolve.specs.declared.bundle.BundleModule.{BundleModule}
 use Rattle.wesl_resolve.specs.declared.bundle.Modules.{Modules}
 use Rattle.wesl_resolve.specs.declared.lines.Lines.{Lines}
-use Rattle.wesl_resolve.proofs.LineFacts.{concat-lines}
+use Rattle.wesl_resolve.proofs.LineFacts.{concat-lines, first_line_is}
 
 -- the path can be read off the line
 pub led_path_back : (p : List ℕ) → led_path (lead p) ≡ p
@@ -49,9 +49,6 @@ leads_decides l = (
 module _ (line rest : List ℕ) (front : line ≡ codes "M\t" ++ rest) where
   after_front : (h : Leads line) → rest ≡ h.path ++ 10 ∷ []
   after_front h = append_cancel_left (codes "M\t") rest (h.path ++ 10 ∷ []) (sym front ∙ h.written)
-
-  pub not_ended : ((p : List ℕ) → rest ≡ p ++ 10 ∷ [] → ⊥) → Leads line → ⊥
-  not_ended n h = n h.path (after_front h)
 
   module _ (p : List ℕ) (back : rest ≡ p ++ 10 ∷ []) where
     pub is_lead : line ≡ lead p
@@ -119,13 +116,13 @@ body_before text at line rest p l h =
     let d = ap length (cut_line at line rest l) in
     let n : length p.front ≡ length text - length rest - length line = omega (arith, c, d, length-append p.front at, length-append line rest) in
     let e : take (length text - length rest - length line) text ≡ p.front = ap (take _) p.splits ∙ take_at p.front at _ n in
-    record { rest = at; splits = rw e p.splits; holds = rw e (sym (p.goes ∙ (ap (λ x. p.front ++ x) b ∙ append-nil p.front))); passes = p.passes }
+    record { rest = at; splits = rw e p.splits; holds = rw e (sym (p.goes ∙ (ap (λ x. p.front ++ x) b ∙ append-nil p.front))); passes = p.passes; stops = λ _. subst Leads (sym (first_line_is at line (lines rest) l)) h }
 
 pub body_all : (text at : List ℕ) → Passed text at → lines at ≡ [] → IsBody text text
 body_all text at p l =
     let b : body (lines at) ≡ [] = ap body l in
     let e : text ≡ p.front = p.splits ∙ (ap (λ x. p.front ++ x) (no_lines at l) ∙ append-nil p.front) in
-    record { rest = []; splits = sym (append-nil text); holds = e ∙ sym (p.goes ∙ (ap (λ x. p.front ++ x) b ∙ append-nil p.front)); passes = p.passes ∙ ap modules (no_lines at l) }
+    record { rest = []; splits = sym (append-nil text); holds = e ∙ sym (p.goes ∙ (ap (λ x. p.front ++ x) b ∙ append-nil p.front)); passes = p.passes ∙ ap modules (no_lines at l); stops = λ h. absurd (omega arith) }
 
 -- the text from a place on, up to the line that leads the next module and with it
 pub record Led (text path rest : List ℕ) : Type 0 where

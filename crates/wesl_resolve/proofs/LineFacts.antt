@@ -4,7 +4,7 @@ use Rattle.std.specs.List.{concat, IsFirstMatchOrLen}
 use Rattle.std.proofs.lemmas.Bool.{cases_Bool}
 use Rattle.std.proofs.lemmas.List.{drop_at, take_all}
 use Rattle.wesl_path.specs.Path.{onto_first}
-use Rattle.wesl_resolve.specs.Lines.{lines}
+use Rattle.wesl_resolve.specs.Lines.{lines, first_line}
 
 concat-onto_first : (b : ℕ) (ls : List (List ℕ)) → concat (onto_first b ls) ≡ b ∷ concat ls
 concat-onto_first b [] = refl
@@ -17,8 +17,19 @@ concat-lines (b ∷ bs) =
     let e = ap (λ x. b ∷ x) (concat-lines bs) in
     elim (cases_Bool (eqb b 10)) [ inl h ↦ rw h e | inr h ↦ rw h (concat-onto_first b (lines bs) ∙ e) ]
 
+-- a text that has a byte has a first line
+lines_first : (bs : List ℕ) → 0 < length bs → lines bs ≡ first_line bs ∷ lines (drop (length (first_line bs)) bs)
+lines_first [] h = absurd (omega arith)
+lines_first (b ∷ []) h = elim (cases_Bool (eqb b 10)) [ inl e ↦ rw e | inr e ↦ rw e ]
+lines_first (b ∷ (c ∷ cs)) h =
+    elim (cases_Bool (eqb b 10)) [ inl e ↦ rw e | inr e ↦ rw e (ap (onto_first b) (lines_first (c ∷ cs) (omega arith))) ]
+
+pub first_line_is : (bs line : List ℕ) (ls : List (List ℕ)) → lines bs ≡ line ∷ ls → first_line bs ≡ line
+first_line_is [] line ls e = absurd (cc)
+first_line_is (b ∷ bs) line ls e = cc (lines_first (b ∷ bs) (omega arith))
+
 -- a line goes as far as the first 0x0A, or as the text
-pub lines-first : (line back : List ℕ) (i : ℕ) → 0 < length line → length line ≡ min (i + 1) (length (line ++ back)) → IsFirstMatchOrLen (λ b. eqb b 10) (line ++ back) i → lines (line ++ back) ≡ line ∷ lines back
+lines-first : (line back : List ℕ) (i : ℕ) → 0 < length line → length line ≡ min (i + 1) (length (line ++ back)) → IsFirstMatchOrLen (λ b. eqb b 10) (line ++ back) i → lines (line ++ back) ≡ line ∷ lines back
 lines-first [] back i h l m = absurd (omega arith)
 lines-first (b ∷ []) [] i h l m = elim (cases_Bool (eqb b 10)) [ inl e ↦ rw e | inr e ↦ rw e ]
 lines-first (b ∷ []) (c ∷ cs) zero h l m = let e : eqb b 10 ≡ true = m.1 (omega arith) b in rw e

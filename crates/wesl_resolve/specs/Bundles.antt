@@ -3,7 +3,7 @@ use Rattle.std.specs.Prelude.{◌≡◌, ℕ, ◌+◌, ◌-◌, ◌<◌, ◌≤�
 use Rattle.std.specs.Str.{bytes_eq}
 use Rattle.wesl_path.specs.Path.{IsPath, is_path_text}
 use Rattle.wesl_resolve.specs.Sources.{Source}
-use Rattle.wesl_resolve.specs.Lines.{lines}
+use Rattle.wesl_resolve.specs.Lines.{lines, first_line}
 use Rattle.wesl_resolve.specs.declared.bundle.Bundle.{Bundle}
 use Rattle.wesl_resolve.specs.declared.bundle.BundleModule.{BundleModule}
 use Rattle.wesl_resolve.specs.declared.bundle.Modules.{Modules}
@@ -68,12 +68,13 @@ Made text (Err f) = (i : ℕ) × BrokenAt text i × (f ≡ Broken None (i + 1))
 abbrev pub Strays : List ℕ → Type 0
 Strays line = Marked line × (Leads line → ⊥)
 
--- the lines before the next that leads a module, or all: what begins a text, and what is left of it
+-- the lines before the next that leads a module, or before the end: what begins a text, and what is left of it
 pub record IsBody (text front : List ℕ) : Type 0 where
   pub rest : List ℕ
   pub splits : text ≡ front ++ rest
   pub holds : front ≡ body (lines text)
   pub passes : modules text ≡ modules rest
+  pub stops : 0 < length rest → Leads (first_line rest)
 
 -- the first module from a place in the text on, and where the next is sought; or there is none
 abbrev pub NextModule : List ℕ → ℕ → Option BundleModule → Type 0

@@ -26,7 +26,8 @@ pub struct BundleModule<'t> {
     pub end: usize,
 }
 
-/// The modules of a bundle that are yet to come.
+/// The modules of a bundle that are yet to come, from a place in its text on. Callers know the place, as a module's `end`,
+/// so it is kept, and not what is left of the text.
 #[derive(Drop)]
 pub struct Modules<'t> {
     text: &'t [u8],

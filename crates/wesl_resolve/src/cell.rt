@@ -14,7 +14,8 @@ const CELL_SIZE: usize = 2558;
 const PATH_START: usize = 255;
 
 /// The cell that the bytes of a fault lie in, lent to each call that may refuse: the path of a module in the first 255,
-/// a path that was not found in the next 255, and two names in 1,024 each.
+/// a path that was not found in the next 255, and two names in 1,024 each. The library allocates nothing, and callers
+/// read these places, so it is one array.
 #[derive(Clone, Copy)]
 pub struct FaultCell {
     bytes: [u8; CELL_SIZE],

@@ -3,7 +3,7 @@ use Rattle.wesl_path.proofs.PassedFacts.{own_short}
 use Rattle.wesl_resolve.specs.Cells.{path_place, Missed}
 use Rattle.wesl_resolve.specs.declared.cell.FaultCell.{FaultCell}
 use Rattle.wesl_resolve.specs.declared.fault.ResolveFault.TheVariants.{Missing}
-use Rattle.wesl_resolve.proofs.AskFacts.{missed}
+use Rattle.wesl_resolve.proofs.CellFacts.{missed}
 use Rattle.wesl_resolve.proofs.cell.FaultCell.not_found.Goals as goal
 
 pub put-requires : goal.put-requires

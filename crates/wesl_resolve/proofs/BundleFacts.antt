@@ -177,8 +177,8 @@ next_module text from path rest front at h e l b =
     let end : length text - length rest + length front ≡ at + length (l.front ++ front) = omega (arith, length-append l.front front) in
     let cut : from ≡ (l.front ++ front) ++ b.rest = l.splits ∙ (ap (λ x. l.front ++ x) b.splits ∙ sym (append_assoc l.front front b.rest)) in
     let d : drop (length text - length rest + length front) text ≡ b.rest =
-        ap (λ x. drop x text) end ∙ (sym (drop-drop (length (l.front ++ front)) at text)
-            ∙ (ap (drop (length (l.front ++ front))) (sym e ∙ cut) ∙ drop_at (l.front ++ front) b.rest (length (l.front ++ front)) refl)) in (
+    ap (λ x. drop x text) end ∙ (sym (drop-drop (length (l.front ++ front)) at text)
+    ∙ (ap (drop (length (l.front ++ front))) (sym e ∙ cut) ∙ drop_at (l.front ++ front) b.rest (length (l.front ++ front)) refl)) in (
       ap modules (sym e) ∙ (l.is ∙ rw (sym b.holds, b.passes, d)),
       omega arith,
       omega arith,

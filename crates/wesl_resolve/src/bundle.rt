@@ -111,6 +111,7 @@ impl<'t> Bundle<'t> {
 impl Resolver for Bundle<'_> {
     ghost texts = { λ b. text_at (modules b.text.now) };
 
+    // The bundle's own method lends the text for as long as it lives, which the trait's cannot promise.
     fn resolve_source(&self, path: &ModulePath) -> Option<&[u8]> {
         self.source(path)
     }

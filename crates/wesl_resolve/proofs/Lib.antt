@@ -2,5 +2,5 @@ pub mod SourceFacts
 pub mod VirtualFacts
 pub mod LineFacts
 pub mod BundleFacts
+pub mod CellFacts
 pub mod BreakFacts
-pub mod AskFacts

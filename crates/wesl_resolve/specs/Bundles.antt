@@ -1,6 +1,5 @@
 -- Bundles: one text with the texts of several modules, each led by a line `M`, tab, path.
-use Rattle.std.specs.Prelude.{◌≡◌, ℕ, ◌+◌, ◌-◌, ◌<◌, ◌≤◌, Bool, true, false, cond, ◌&&◌, ◌⊎◌, List, [], ◌∷◌, ◌++◌, length, take, drop, Some, None, Ok, Err, codes, Option, Result, slice_index_or}
-use Rattle.std.specs.List.{between}
+use Rattle.std.specs.Prelude.{◌≡◌, ℕ, ◌+◌, ◌-◌, ◌<◌, ◌≤◌, Bool, cond, ◌&&◌, ◌⊎◌, List, [], ◌∷◌, ◌++◌, length, take, drop, Some, None, Ok, Err, codes, Option, Result, slice_index_or}
 use Rattle.std.specs.Str.{bytes_eq}
 use Rattle.wesl_path.specs.Path.{IsPath, is_path_text}
 use Rattle.wesl_resolve.specs.Sources.{Source}
@@ -65,20 +64,17 @@ abbrev pub Made : List ℕ → Result Bundle ListingFault → Type 0
 Made text (Ok b) = (b.text.now ≡ text) × Unbroken text
 Made text (Err f) = (i : ℕ) × BrokenAt text i × (f ≡ Broken None (i + 1))
 
--- one line by itself, the first of the text or not: that it may not stand there, or that it may
-abbrev pub Astray : List ℕ → Bool → Type 0
-Astray line first = (Leads line → ⊥) × (Marked line ⊎ (first ≡ true))
+-- a line that begins with `M` and leads no module, which may stand nowhere
+abbrev pub Strays : List ℕ → Type 0
+Strays line = Marked line × (Leads line → ⊥)
 
-abbrev pub Settled : List ℕ → Bool → Type 0
-Settled line first = Leads line ⊎ ((Marked line → ⊥) × (first ≡ false))
-
--- the lines up to the next that leads a module, or to the end of the text: where they end
-pub record BodyEnd (text : List ℕ) (at end : ℕ) : Type 0 where
-  pub low : at ≤ end
-  pub high : end ≤ length text
-  pub holds : between at end text ≡ body (lines (drop at text))
-  pub passes : modules (drop at text) ≡ modules (drop end text)
-  pub stops : end < length text → Leads (first_line (drop end text))
+-- the lines before the next that leads a module, or before the end: what begins a text, and what is left of it
+pub record IsBody (text front : List ℕ) : Type 0 where
+  pub rest : List ℕ
+  pub splits : text ≡ front ++ rest
+  pub holds : front ≡ body (lines text)
+  pub passes : modules text ≡ modules rest
+  pub stops : 0 < length rest → Leads (first_line rest)
 
 -- the first module from a place in the text on, and where the next is sought; or there is none
 abbrev pub NextModule : List ℕ → ℕ → Option BundleModule → Type 0

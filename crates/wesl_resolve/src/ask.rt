@@ -1,14 +1,29 @@
 //! Asking Resolvers, whichever they are.
-ghost use Rattle.std.specs.Prelude.{◌≡◌, Decides};
+ghost use Rattle.std.specs.Option.{option_map};
 ghost use Rattle.wesl_path.specs.Texts.{path_text};
 ghost use Rattle.wesl_resolve.specs.Cells.{Sourced};
-ghost use Rattle.wesl_resolve.specs.Asked.{Alike, Differs, FoundIn};
+ghost use Rattle.wesl_resolve.specs.Asked.{Differs, FoundIn};
 
 use crate::bundle::Bundle;
 use crate::cell::FaultCell;
 use crate::fault::ResolveFault;
 use crate::resolver::Resolver;
-use wesl_path::{ModulePath, same_bytes};
+use wesl_path::ModulePath;
+
+/// The text that was found at a path, or the fault that there is none.
+fn or_not_found<'r>(
+    found: Option<&'r [u8]>,
+    path: &ModulePath,
+    cell: &mut FaultCell,
+) -> Result<&'r [u8], ResolveFault>
+    ensures { Sourced (λ _. option_map (λ x. x.now) found.entry) (path_text path.now) cell.old cell.new result }
+{
+    // After `ok_or_else` nothing would be known of a cell that its closure borrows and, not called, leaves as it was.
+    match found {
+        Some(text) => Ok(text),
+        None => Err(cell.not_found(path)),
+    }
+}
 
 /// The text of a module that is wanted, or the fault that there is none.
 pub fn find_source<'r, R: Resolver>(
@@ -18,10 +33,7 @@ pub fn find_source<'r, R: Resolver>(
 ) -> Result<&'r [u8], ResolveFault>
     ensures { Sourced (R.texts resolver.now) (path_text path.now) cell.old cell.new result }
 {
-    match resolver.resolve_source(path) {
-        Some(text) => Ok(text),
-        None => Err(cell.not_found(path)),
-    }
+    or_not_found(resolver.resolve_source(path), path, cell)
 }
 
 /// The text of a module in the text of a bundle.
@@ -32,22 +44,7 @@ pub fn find_in_bundle<'t>(
 ) -> Result<&'t [u8], ResolveFault>
     ensures { FoundIn text.now (path_text path.now) cell.old cell.new result }
 {
-    let bundle = Bundle::read(text)?;
-    match bundle.source(path) {
-        Some(source) => Ok(source),
-        None => Err(cell.not_found(path)),
-    }
-}
-
-/// Whether two Resolvers give one answer for a path.
-fn is_alike<A: Resolver, B: Resolver>(a: &A, b: &B, path: &ModulePath) -> bool
-    ensures { Decides result (Alike (A.Resolver.texts a.now) (B.Resolver.texts b.now) path.now) }
-{
-    match (a.resolve_source(path), b.resolve_source(path)) {
-        (Some(x), Some(y)) => same_bytes(x, y),
-        (None, None) => true,
-        _ => false,
-    }
+    or_not_found(Bundle::read(text)?.source(path), path, cell)
 }
 
 /// The index of the first path for which two Resolvers give different answers. Those that agree on the paths asked give
@@ -59,10 +56,7 @@ pub fn first_difference<A: Resolver, B: Resolver>(
 ) -> Option<usize>
     ensures { Differs (A.Resolver.texts a.now) (B.Resolver.texts b.now) paths.now result }
 {
-    for (i, path) in paths.iter().enumerate() {
-        if !is_alike(a, b, path) {
-            return Some(i);
-        }
-    }
-    None
+    paths
+        .iter()
+        .position(|path| a.resolve_source(path) != b.resolve_source(path))
 }

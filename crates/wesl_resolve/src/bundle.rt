@@ -1,16 +1,16 @@
 //! Bundles: one text with the texts of several modules.
-ghost use Rattle.std.specs.Prelude.{◌≡◌, ℕ, ◌-◌, ◌<◌, ◌≤◌, List, [], ◌∷◌, ◌++◌, length, codes, MatchBool, MatchOption, ◌≢◌};
+ghost use Rattle.std.specs.Prelude.{◌≡◌, ◌-◌, ◌≤◌, length, Decides, MatchOption};
 ghost use Rattle.std.specs.Option.{option_map};
 ghost use Rattle.wesl_path.specs.Path.{IsPath};
 ghost use Rattle.wesl_path.specs.Texts.{path_text};
 ghost use Rattle.wesl_resolve.specs.Sources.{text_at};
-ghost use Rattle.wesl_resolve.specs.Bundles.{lead, Leads, modules, Astray, Settled, Unbroken, BrokenAt, Made, BodyEnd, NextModule, Advances};
+ghost use Rattle.wesl_resolve.specs.Bundles.{lead, Leads, modules, Strays, IsBody, Unbroken, BrokenAt, Made, Advances};
 ghost use Rattle.std.specs.Iterator.{at_most};
 
 use crate::fault::ListingFault;
-use crate::lines::line_end;
+use crate::lines::Lines;
 use crate::resolver::Resolver;
-use wesl_path::{ModulePath, is_path, same_bytes};
+use wesl_path::{ModulePath, is_path};
 
 /// One text in which a line `M`, tab, path leads each module.
 #[derive(Clone, Copy)]
@@ -26,21 +26,8 @@ pub struct BundleModule<'t> {
     pub end: usize,
 }
 
-/// What follows `M` and a tab.
-fn after_mark(line: &[u8]) -> Option<&[u8]>
-    ensures { MatchOption result ((rest : List ℕ) → line.now ≢ codes "M\t" ++ rest) (λ x. line.now ≡ codes "M\t" ++ x.now) }
-{
-    line.strip_prefix(b"M\t")
-}
-
-/// What stands before the 0x0A at the end.
-fn before_end(text: &[u8]) -> Option<&[u8]>
-    ensures { MatchOption result ((front : List ℕ) → text.now ≢ front ++ 10 ∷ []) (λ x. text.now ≡ x.now ++ 10 ∷ []) }
-{
-    text.strip_suffix(b"\n")
-}
-
-/// The modules of a bundle that are yet to come.
+/// The modules of a bundle that are yet to come, from a place in its text on. Callers know the place, as a module's `end`,
+/// so it is kept, and not what is left of the text.
 #[derive(Drop)]
 pub struct Modules<'t> {
     text: &'t [u8],
@@ -51,94 +38,39 @@ pub struct Modules<'t> {
 fn path_led(line: &[u8]) -> Option<&[u8]>
     ensures { MatchOption result (Leads line.now → ⊥) (λ p. IsPath p.now × (line.now ≡ lead p.now)) }
 {
-    let Some(rest) = after_mark(line) else {
-        return None;
-    };
-    let Some(path) = before_end(rest) else {
-        return None;
-    };
-    if is_path(path) { Some(path) } else { None }
+    let path = line.strip_prefix(b"M\t")?.strip_suffix(b"\n")?;
+    is_path(path).then_some(path)
 }
 
-/// Where the lines from `at` on end that stand before the next line that leads a module.
-fn body_end(text: &[u8], at: usize) -> usize
-    requires { at ≤ length text.now }
-    ensures { BodyEnd text.now at result }
+/// The lines that stand before the next that leads a module.
+fn body_of(text: &[u8]) -> &[u8]
+    ensures { IsBody text.now result.now }
 {
-    let mut end = at;
-    while end < text.len() {
-        let next = line_end(text, end);
-        match path_led(&text[end..next]) {
-            Some(_) => return end,
-            None => end = next,
-        }
-    }
-    end
-}
-
-/// The first module from `at` on.
-fn next_module(text: &[u8], at: usize) -> Option<BundleModule<'_>>
-    ensures { NextModule text.now at result }
-{
-    if at >= text.len() {
-        return None;
-    }
-    let start = body_end(text, at);
-    let from = line_end(text, start);
-    let Some(path) = path_led(&text[start..from]) else {
-        return None;
-    };
-    let end = body_end(text, from);
-    Some(BundleModule {
-        path,
-        text: &text[from..end],
-        end,
-    })
-}
-
-/// The text of the first module at a path.
-fn text_in<'t>(text: &'t [u8], path: &ModulePath) -> Option<&'t [u8]>
-    ensures { option_map (λ x. x.now) result ≡ text_at (modules text.now) (path_text path.now) }
-{
-    let mut at = 0;
-    while let Some(module) = next_module(text, at) {
-        if same_bytes(module.path, path.as_bytes()) {
-            return Some(module.text);
-        }
-        at = module.end;
-    }
-    None
-}
-
-/// Whether a line may not stand where it stands. The first line of all is to lead a module; any other is to do so only
-/// if it begins with `M`.
-fn is_broken(line: &[u8], first: bool) -> bool
-    ensures { MatchBool result (Astray line.now first) (Settled line.now first) }
-{
-    match path_led(line) {
-        Some(_) => false,
-        None => match line {
-            [b'M', ..] => true,
-            _ => first,
-        },
+    let mut lines = Lines { rest: text };
+    match lines.find(|line| path_led(line).is_some()) {
+        Some(line) => &text[..text.len() - lines.rest.len() - line.len()],
+        None => text,
     }
 }
 
-/// The index of the first line that may not stand where it stands.
+/// Whether a line begins with `M` and leads no module.
+fn is_stray(line: &[u8]) -> bool
+    ensures { Decides result (Strays line.now) }
+{
+    line.starts_with(b"M") && path_led(line).is_none()
+}
+
+/// The index of the first line that may not stand where it stands: the first of all is to lead a module, and any other
+/// only if it begins with `M`.
 fn first_broken(text: &[u8]) -> Option<usize>
     ensures { MatchOption result (Unbroken text.now) (λ i. BrokenAt text.now i) }
 {
-    let mut at = 0;
-    let mut i = 0;
-    while at < text.len() {
-        let end = line_end(text, at);
-        if is_broken(&text[at..end], i == 0) {
-            return Some(i);
-        }
-        at = end;
-        i += 1;
+    let mut lines = Lines { rest: text };
+    let first = lines.next()?;
+    if path_led(first).is_none() {
+        return Some(0);
     }
-    None
+    lines.position(is_stray).map(|i| i + 1)
 }
 
 impl<'t> Bundle<'t> {
@@ -146,20 +78,22 @@ impl<'t> Bundle<'t> {
     pub fn read(text: &'t [u8]) -> Result<Bundle<'t>, ListingFault>
         ensures { Made text.now result }
     {
-        match first_broken(text) {
-            None => Ok(Bundle { text }),
-            Some(i) => Err(ListingFault::Broken {
+        if let Some(i) = first_broken(text) {
+            return Err(ListingFault::Broken {
                 module: None,
                 line: i + 1,
-            }),
+            });
         }
+        Ok(Bundle { text })
     }
 
     /// The text of the first module at a path.
     pub fn source(&self, path: &ModulePath) -> Option<&'t [u8]>
         ensures { option_map (λ x. x.now) result ≡ text_at (modules self.now.text.now) (path_text path.now) }
     {
-        text_in(self.text, path)
+        self.modules()
+            .find(|module| module.path == path.as_bytes())
+            .map(|module| module.text)
     }
 
     /// The modules in their order, those at a path that occurred before too.
@@ -177,6 +111,7 @@ impl<'t> Bundle<'t> {
 impl Resolver for Bundle<'_> {
     ghost texts = { λ b. text_at (modules b.text.now) };
 
+    // The bundle's own method lends the text for as long as it lives, which the trait's cannot promise.
     fn resolve_source(&self, path: &ModulePath) -> Option<&[u8]> {
         self.source(path)
     }
@@ -190,12 +125,13 @@ impl<'t> Iterator for Modules<'t> {
     ghost remaining = { λ s. at_most (length s.text.now - s.at) };
 
     fn next(&mut self) -> Option<BundleModule<'t>> {
-        match next_module(self.text, self.at) {
-            Some(module) => {
-                self.at = module.end;
-                Some(module)
-            }
-            None => None,
-        }
+        let mut lines = Lines {
+            rest: self.text.get(self.at..)?,
+        };
+        let path = lines.find_map(path_led)?;
+        let text = body_of(lines.rest);
+        let end = self.text.len() - lines.rest.len() + text.len();
+        self.at = end;
+        Some(BundleModule { path, text, end })
     }
 }

@@ -14,23 +14,11 @@ const CELL_SIZE: usize = 2558;
 const PATH_START: usize = 255;
 
 /// The cell that the bytes of a fault lie in, lent to each call that may refuse: the path of a module in the first 255,
-/// a path that was not found in the next 255, and two names in 1,024 each.
+/// a path that was not found in the next 255, and two names in 1,024 each. The library allocates nothing, and callers
+/// read these places, so it is one array.
 #[derive(Clone, Copy)]
 pub struct FaultCell {
     bytes: [u8; CELL_SIZE],
-}
-
-/// The fault that there is no module at a path, where no module holds the reference to it.
-fn miss(path: &ModulePath, cell: &mut FaultCell) -> ResolveFault
-    ensures { Missed (path_text path.now) cell.old cell.new result }
-{
-    let bytes = path.as_bytes();
-    put(&mut cell.bytes, PATH_START, bytes);
-    let path = Some(Place {
-        start: PATH_START,
-        len: bytes.len(),
-    });
-    ResolveFault::Missing { module: None, path }
 }
 
 impl FaultCell {
@@ -55,6 +43,12 @@ impl FaultCell {
     pub fn not_found(&mut self, path: &ModulePath) -> ResolveFault
         ensures { Missed (path_text path.now) self.old self.new result }
     {
-        miss(path, self)
+        let bytes = path.as_bytes();
+        put(&mut self.bytes, PATH_START, bytes);
+        let path = Some(Place {
+            start: PATH_START,
+            len: bytes.len(),
+        });
+        ResolveFault::Missing { module: None, path }
     }
 }

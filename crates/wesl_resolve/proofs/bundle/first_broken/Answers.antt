@@ -1,19 +1,17 @@
-use Rattle.std.proofs.Common.{arith}
-use Rattle.wesl_resolve.proofs.LineFacts.{line_at}
-use Rattle.wesl_resolve.proofs.BreakFacts.{broken_here, passed_more, passed_all}
+use Rattle.std.proofs.Common.{ℕ, Bor, List, rules, refl}
+use borrow.Author.Tests.{tests}
+use Rattle.std.proofs.lemmas.Iterator.{IsFirst-from_position}
+use Rattle.std.proofs.lemmas.Iterator.Consumers.{YieldsList-from_first}
+use Rattle.wesl_resolve.specs.Lines.{lines, lines_left}
+use Rattle.wesl_resolve.specs.Bundles.{Strays, Leads}
+use Rattle.wesl_resolve.proofs.BundleFacts.{leads_from}
+use Rattle.wesl_resolve.proofs.BreakFacts.{broken_next}
 use Rattle.wesl_resolve.proofs.bundle.first_broken.Goals as goal
 
-pub returns-then-is_broken : goal.returns-then-is_broken
-returns-then-is_broken c =
-    let text = c.args.text.now in
-    let line = line_at text c.loop-at.at c.line_end-end.result (omega arith) c.line_end-end.ensures.value in
-    broken_here text c.loop-at.at c.loop-at.i c.line_end-end.result c.loop-at.invariant line c.if-is_broken.ensures
-
-pub loop-at-preserved : goal.loop-at-preserved
-loop-at-preserved c =
-    let text = c.args.text.now in
-    let line = line_at text c.loop-at.at c.line_end-end.result (omega arith) c.line_end-end.ensures.value in
-    passed_more text c.loop-at.at c.loop-at.i c.line_end-end.result c.loop-at.invariant line c.if-is_broken.ensures
-
 pub returns : goal.returns
-returns c = passed_all c.args.text.now c.loop-at.at c.loop-at.i c.loop-at.invariant (omega arith)
+returns c =
+    let rest = c.next.new.self.rest.now in
+    let leads : Leads c.in_ok-first.first.now = leads_from _ c.path_led.result c.path_led.ensures c.if-is_none.ensures in
+    let chain = YieldsList-from_first (λ (line : Bor (List ℕ)). line.now) lines_left {s = c.next.new.self} (lines rest) refl in
+    let at = IsFirst-from_position c.position.new.self _ c.position.result Strays (λ l. Strays l → ⊥) c.position.ensures.ran chain (λ x q k. search (rules, tests)) (λ x q k. (refl, search (rules, tests))) in
+    broken_next c.args.text.now c.in_ok-first.first.now (lines rest) c.in_ok-first.ensures.steps leads c.position.result c.map.result _ at c.map.ensures.cases (λ i j k. search (rules, tests))

@@ -1,18 +1,10 @@
--- What two Resolvers answered, and the cell after a path was not found.
-use Rattle.std.proofs.Common.{◌≡◌, ℕ, ◌+◌, ◌≤◌, Bool, List, [], ◌++◌, length, take, drop, Some, None, Decides, Option, sym, refl, ap, ◌∙◌}
-use Rattle.std.specs.Str.{bytes_eq}
-use Rattle.std.proofs.lemmas.Slice.Eq.{bytes_eq-Decides}
+-- The cell after a path was not found.
+use Rattle.std.proofs.Common.{◌≡◌, ℕ, ◌+◌, ◌≤◌, List, [], ◌++◌, length, take, drop, Some, None, refl, ap, ◌∙◌}
 use Rattle.std.proofs.lemmas.List.{take_at, drop_at, length-take-le}
 use Rattle.wesl_table.specs.Places.{part}
 use Rattle.wesl_resolve.specs.Cells.{written_at, path_place, Missed}
 use Rattle.wesl_resolve.specs.declared.cell.FaultCell.{FaultCell}
 use Rattle.wesl_resolve.specs.declared.fault.ResolveFault.TheVariants.{Missing}
-
-pub alike_some : (a b : Option (List ℕ)) (x y : List ℕ) (r : Bool) → Some x ≡ a → Some y ≡ b → r ≡ bytes_eq x y → Decides r (a ≡ b)
-alike_some a b x y r p q e = (
-  (λ h. sym p ∙ (ap Some ((bytes_eq-Decides x y).0 (sym e ∙ h)) ∙ q)),
-  (λ h. e ∙ (bytes_eq-Decides x y).1 (let z : Some x ≡ Some y = p ∙ (h ∙ sym q) in cc)),
-)
 
 -- what was written can be read at its place
 pub read_back : (p cell : List ℕ) → 255 ≤ length cell → part (path_place p) (written_at 255 p cell) ≡ p

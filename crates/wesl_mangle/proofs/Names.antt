@@ -1,9 +1,10 @@
 -- Names that are handed over.
-use Rattle.std.proofs.Common.{◌≡◌, true, ℕ, ◌≤◌, List, length, take, drop, IfOk, Ok, Err, Result, sym, ap, ◌∙◌, arith}
-use Rattle.std.proofs.lemmas.List.{take_at}
-use Rattle.std.proofs.lemmas.Bool.{and_from}
 use Rattle.wesl_path.specs.Name.{word_bytes, starts_well_text}
+use Rattle.wesl_path.proofs.AsciiFacts.{word_bytes_utf8}
 use Rattle.wesl_mangle.specs.Mangle.{Item, Identifier, is_word}
+use Rattle.std.proofs.Common.{◌≡◌, true, ℕ, ◌≤◌, List, length, take, drop, IfOk, Ok, Err, Result, IsUtf8, sym, ap, ◌∙◌, arith}
+use Rattle.std.proofs.lemmas.List.{take_at}
+use Rattle.std.proofs.lemmas.Bool.{and_from, and_parts}
 use Rattle.wesl_mangle.specs.Writes.{Answered}
 use Rattle.wesl_mangle.specs.declared.fault.MangleFault.{MangleFault}
 use Rattle.wesl_mangle.specs.declared.fault.MangleFault.TheVariants.{NoRoom}
@@ -25,3 +26,8 @@ answered_back what was new (Err NoRoom) read x h e = tt
 -- a refusal says that there was no room
 pub room_enough : (what was new : List ℕ) (x : MangleFault) → Answered what was new (Err x) → length what ≤ 1024 → length was ≡ 1024 → ⊥
 room_enough what was new NoRoom h l m = let k = h.0 in omega arith
+
+-- a name is text
+pub word_utf8 : (bs : List ℕ) → is_word bs ≡ true → IsUtf8 bs
+unfolding is_word
+word_utf8 bs h = word_bytes_utf8 bs (and_parts (starts_well_text bs) (word_bytes bs) h).1

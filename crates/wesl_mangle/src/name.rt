@@ -5,6 +5,8 @@ ghost use Rattle.wesl_path.specs.Texts.{path_value, name_text};
 ghost use Rattle.wesl_mangle.specs.Mangle.{is_word};
 
 use crate::mangler::Mangler;
+use std::fmt;
+use std::str::from_utf8;
 use wesl_path::{InlineBytes, ModulePath, PlainName};
 
 /// A mangled name has at most so many bytes.
@@ -56,5 +58,19 @@ impl MangledName {
         ensures valid { is_word result.now ≡ true }
     {
         self.text.as_slice()
+    }
+
+    /// The name as text.
+    #[tactic(auto, using(crate::proofs::Names::word_utf8))]
+    pub fn as_str(&self) -> &str
+        ensures { result.now ≡ mangled_text self.now }
+    {
+        from_utf8(self.as_bytes()).unwrap()
+    }
+}
+
+impl fmt::Display for MangledName {
+    fn fmt<W: fmt::Write>(&self, f: &mut fmt::Formatter<W>) -> fmt::Result {
+        f.pad(self.as_str())
     }
 }

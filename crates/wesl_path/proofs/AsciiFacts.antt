@@ -47,8 +47,11 @@ origin_ascii (relative (suc n)) h = All-append _ (codes "super") _ super_ascii (
 origin_ascii (packaged part more) h =
     All-append _ part (led (codes "/") more) (plain_ascii part h.0) (led_ascii (codes "/") more (lit< tt, tt) (All-weaker Plain Ascii plain_ascii more h.1))
 
+pub word_bytes_utf8 : (bs : List ℕ) → word_bytes bs ≡ true → IsUtf8 bs
+word_bytes_utf8 bs e = IsUtf8-from_ascii bs (IsAscii-from_all bs (bytes_ascii bs e))
+
 pub name_utf8 : (bs : List ℕ) → plain bs ≡ true → IsUtf8 bs
-name_utf8 bs h = IsUtf8-from_ascii bs (IsAscii-from_all bs (plain_ascii bs h))
+name_utf8 bs h = word_bytes_utf8 bs (plain_word_bytes bs h)
 
 pub path_utf8 : (bs : List ℕ) → is_path_text bs ≡ true → IsUtf8 bs
 unfolding shown

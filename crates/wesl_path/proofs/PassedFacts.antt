@@ -102,6 +102,3 @@ same_answer a b r e =
 -- a word may end where an origin does
 pub own_edge : (text : List ℕ) (h : Head) → HeadOf text h → Boundary (drop h.end text)
 own_edge text h head = subst Boundary (sym head.back) (components_edge (path_of text).components)
-
-pub own_short : (text : List ℕ) → is_path_text text ≡ true → length text ≤ 255
-own_short text valid = let t = path_from_test text valid in let k = ap length t.1 in let l = t.0.short in omega (arith, k)

@@ -1,8 +1,8 @@
 -- Paths: what is printed is read back, and in one way.
-use Rattle.std.proofs.Common.{◌≡◌, ℕ, zero, suc, ◌+◌, ◌-◌, ◌<◌, ◌≤◌, true, false, cond, eqb, leb, List, [], ◌∷◌, ◌++◌, length, take, drop, replicate, codes, Decides, sym, refl, ap, ◌∙◌, subst, zero-add, arith}
+use Rattle.std.proofs.Common.{◌≡◌, ℕ, zero, suc, ◌+◌, ◌<◌, true, false, cond, eqb, leb, List, [], ◌∷◌, ◌++◌, length, take, drop, replicate, codes, Decides, sym, refl, ap, ◌∙◌, subst, zero-add, arith}
 use Rattle.std.specs.List.{AllByRecursion}
 use Rattle.std.specs.Str.{bytes_eq}
-use Rattle.std.proofs.lemmas.List.{append_assoc, append-nil, take_at, drop_at, drop-drop, drop_all, nil_from_length}
+use Rattle.std.proofs.lemmas.List.{append_assoc, append-nil, take_at, drop_at}
 use Rattle.std.proofs.lemmas.List.Sums.{sum_by-append, sum_by-cons}
 use Rattle.std.proofs.lemmas.Bool.{and_parts, and_from, or_parts, leb-true, le-leb}
 use Rattle.std.proofs.lemmas.Bool.Decides.{nat_tests}
@@ -10,10 +10,10 @@ use Rattle.std.proofs.ByRecursion.{Decides-by_and}
 use Rattle.std.proofs.lemmas.Slice.Eq.{bytes_eq-Decides}
 use Rattle.wesl_path.specs.Name.{reserved, plain, Plain}
 use Rattle.wesl_path.specs.Path.{origin_words, path_words, Origin, absolute, relative, packaged, Path, led, shown, PlainOrigin, Sound, IsPath, parts_words, onto_first, pieces, without_empty, words, slashes, after_super, of_words, path_of, all_plain, plain_origin, is_path_text}
-use Rattle.wesl_path.specs.Words.{first_word, after_word, Boundary, lead_of}
+use Rattle.wesl_path.specs.Words.{Boundary, lead_of}
 use Rattle.wesl_path.specs.declared.words.Step.{Step}
 use Rattle.wesl_path.specs.declared.words.Step.TheVariants.{Part, Super, Component}
-use Rattle.wesl_path.proofs.WordFacts.{Inner, plain_inner, plain_starts, plain_free, led_edge, first_inner, after_edge, word_parts}
+use Rattle.wesl_path.proofs.WordFacts.{Inner, plain_inner, plain_starts, plain_free, led_edge}
 
 -- a word that has a byte, and none that parts words
 pub record Solid (w : List ℕ) : Type 0 where
@@ -52,39 +52,6 @@ unfolding words
 words_front w [] h k = ap without_empty (ap pieces (append-nil w) ∙ pieces_all w h.inner) ∙ keeps_some w [] h.some
 words_front w (b ∷ rest) h k =
     ap without_empty (pieces_at w b rest h.inner k) ∙ (keeps_some w (pieces rest) h.some ∙ ap (λ x. w ∷ x) (sym (words_skip (b ∷ rest) k)))
-
--- The words from an index on, for a loop that goes from word to word.
-module _ (text : List ℕ) (i stop : ℕ) (end : stop ≡ i + length (first_word (drop i text))) where
-  after_stop : drop stop text ≡ after_word (drop i text)
-  after_stop =
-      ap (λ k. drop k text) end
-      ∙ (sym (drop-drop (length (first_word (drop i text))) i text)
-      ∙ (ap (drop (length (first_word (drop i text)))) (sym (word_parts (drop i text))) ∙ drop_at (first_word (drop i text)) (after_word (drop i text)) _ refl))
-
-  words_left : words (after_word (drop i text)) ≡ words (drop (stop + 1) text)
-  words_left =
-      words_skip (after_word (drop i text)) (after_edge (drop i text)) ∙ ap words (ap (drop 1) (sym after_stop) ∙ drop-drop 1 stop text)
-
-  pub word_here : take (stop - i) (drop i text) ≡ first_word (drop i text)
-  word_here =
-      let k : length (first_word (drop i text)) ≡ stop - i = omega (arith, end) in
-      ap (take (stop - i)) (sym (word_parts (drop i text))) ∙ take_at (first_word (drop i text)) (after_word (drop i text)) (stop - i) k
-
-  pub words_more : i < stop → words (drop i text) ≡ take (stop - i) (drop i text) ∷ words (drop (stop + 1) text)
-  words_more h =
-      let s : Solid (first_word (drop i text)) = record { inner = first_inner (drop i text); some = omega (arith, end) } in
-      ap words (sym (word_parts (drop i text)))
-      ∙ (words_front (first_word (drop i text)) (after_word (drop i text)) s (after_edge (drop i text))
-      ∙ (ap (λ x. x ∷ words (after_word (drop i text))) (sym word_here) ∙ ap (λ x. take (stop - i) (drop i text) ∷ x) words_left))
-
-  pub words_same : stop ≤ i → words (drop i text) ≡ words (drop (stop + 1) text)
-  words_same h =
-      let none : first_word (drop i text) ≡ [] = nil_from_length (first_word (drop i text)) (omega (arith, end)) in
-      ap words (sym (word_parts (drop i text)) ∙ ap (λ x. x ++ after_word (drop i text)) none) ∙ words_left
-
-pub words_none : (text : List ℕ) (i : ℕ) → length text ≤ i → words (drop i text) ≡ []
-unfolding words
-words_none text i h = ap words (drop_all i text h)
 
 pub words_after_lead : (s : Step) (bs : List ℕ) → words (lead_of s ++ bs) ≡ words bs
 unfolding words

@@ -7,7 +7,7 @@ use wesl_table::{Place, TableFault};
 
 /// Why a listing is not read, or a bundle is none. The places are of the bytes in the cell of the call: the path of the
 /// module that was read, which a bundle has not, and a name.
-#[derive(Clone, Copy)]
+#[derive(Clone, Copy, Debug, PartialEq, Eq)]
 pub enum ListingFault {
     /// a line breaks the format
     Broken {
@@ -29,6 +29,7 @@ pub enum ListingFault {
 
 impl ListingFault {
     /// The number that users know the refusal by.
+    // A method: an enum whose cases have contents can have no numbers of its own.
     pub fn number(self) -> u8
         ensures { result ≡ listing_number self }
     {
@@ -52,7 +53,7 @@ impl ListingFault {
 }
 
 /// Why a module cannot be had. A listing fault lies whole inside it.
-#[derive(Clone, Copy)]
+#[derive(Clone, Copy, Debug, PartialEq, Eq)]
 pub enum ResolveFault {
     /// there is no such module, or its path would pass 255 bytes: the module that holds the reference or the import, but
     /// for the root, and the path, if it is one
@@ -68,6 +69,7 @@ pub enum ResolveFault {
 
 impl ResolveFault {
     /// The number that users know the refusal by.
+    // A method: an enum whose cases have contents can have no numbers of its own.
     pub fn number(self) -> u8
         ensures { result ≡ resolve_number self }
     {

@@ -11,6 +11,7 @@ pub enum TableFault {
 
 impl TableFault {
     /// The number that users know the refusal by.
+    // A method, as for the refusals with contents, whose enums can have no numbers of their own.
     pub fn number(self) -> u8
         ensures { result ≡ number_of self }
     {

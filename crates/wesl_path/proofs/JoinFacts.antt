@@ -8,7 +8,7 @@ use Rattle.wesl_path.specs.Name.{Plain}
 use Rattle.wesl_path.specs.Path.{Origin, absolute, relative, packaged, Path, led, shown_origin, shown, PlainOrigin, without_last_names, within, joined_from, join_path, extended, path_of, is_path_text}
 use Rattle.wesl_path.specs.Words.{Passing}
 use Rattle.wesl_path.specs.Heads.{kind_of, HeadOf}
-use Rattle.wesl_path.specs.Joins.{Given, in_package}
+use Rattle.wesl_path.specs.Joins.{Given, read_from}
 use Rattle.wesl_path.specs.Texts.{path_text, path_value, components_text, components_value, name_text}
 use Rattle.wesl_path.specs.declared.components.Components.{Components}
 use Rattle.wesl_path.specs.declared.module_path.ModulePath.{ModulePath}
@@ -126,12 +126,12 @@ kind_package (relative m) n e = absurd (let z : ◌≡◌ {A = ℕ} 0 1 = cc in 
 kind_package (packaged part more) n e = (part, more, refl)
 
 -- a package read from a module, by the module's origin
-in_package_shown : (outer inner part : List ℕ) (more cs : List (List ℕ)) → inner ≡ (part ++ led (codes "/") more) ++ led (codes "::") cs → (o : Origin) → outer ≡ shown_origin o
-    → in_package (kind_of o) outer inner ≡ shown (record { origin = within o part more; components = cs })
+read_from_shown : (outer inner part : List ℕ) (more cs : List (List ℕ)) → inner ≡ (part ++ led (codes "/") more) ++ led (codes "::") cs → (o : Origin) → outer ≡ shown_origin o
+    → read_from (kind_of o) outer inner ≡ shown (record { origin = within o part more; components = cs })
 unfolding shown
-in_package_shown outer inner part more cs e absolute f = e
-in_package_shown outer inner part more cs e (relative n) f = e
-in_package_shown outer inner part more cs e (packaged part₀ more₀) f =
+read_from_shown outer inner part more cs e absolute f = e
+read_from_shown outer inner part more cs e (relative n) f = e
+read_from_shown outer inner part more cs e (packaged part₀ more₀) f =
     let slash = codes "/" in
     let back = led (codes "::") cs in
     let flat = part₀ ++ (led slash more₀ ++ (slash ++ (part ++ (led slash more ++ back)))) in
@@ -163,7 +163,7 @@ module _ (base suffix : List ℕ) (h t : Head) (suffix-valid : is_path_text suff
       ∙ (ap (λ x. shown_origin p.origin ++ x) (sym (led_append (codes "::") kept q.components))
       ∙ sym (ap (λ o. shown (joined_from p o q.components)) (kind_relative q.origin n (sym e ∙ tail.kind))))))
 
-  pub seam_package : (n : ℕ) → t.origin ≡ Package n → in_package h.origin (take h.end base) suffix ≡ shown (join_path (path_of base) (path_of suffix))
+  pub seam_package : (n : ℕ) → t.origin ≡ Package n → read_from h.origin (take h.end base) suffix ≡ shown (join_path (path_of base) (path_of suffix))
   unfolding shown
   seam_package n e =
       let p = path_of base in
@@ -171,8 +171,8 @@ module _ (base suffix : List ℕ) (h t : Head) (suffix-valid : is_path_text suff
       let k = kind_package q.origin n (sym e ∙ tail.kind) in
       let whole : suffix ≡ shown_origin (packaged k.0 k.1) ++ led (codes "::") q.components =
       sym (path_from_test suffix suffix-valid).1 ∙ ap (λ o. shown_origin o ++ led (codes "::") q.components) k.2 in
-      ap (λ o. in_package o (take h.end base) suffix) head.kind
-      ∙ (in_package_shown (take h.end base) suffix k.0 k.1 q.components whole p.origin head.front
+      ap (λ o. read_from o (take h.end base) suffix) head.kind
+      ∙ (read_from_shown (take h.end base) suffix k.0 k.1 q.components whole p.origin head.front
       ∙ sym (ap (λ o. shown (joined_from p o q.components)) k.2))
 
 -- joined paths are plain where both were

@@ -20,11 +20,11 @@ Given p (Err Malformed) = ⊥
 Given p (Err Relative') = ⊥
 Given p (Err Long) = 255 < length (shown p)
 
--- the text of a package named from inside another: one part further down
-abbrev pub in_package : PathOrigin → List ℕ → List ℕ → List ℕ
-in_package Absolute outer inner = inner
-in_package (Relative n) outer inner = inner
-in_package (Package n) outer inner = outer ++ (codes "/" ++ inner)
+-- the text of a package that a module names, by the module's own origin: inside another package it is one part further down
+abbrev pub read_from : PathOrigin → List ℕ → List ℕ → List ℕ
+read_from Absolute outer inner = inner
+read_from (Relative n) outer inner = inner
+read_from (Package n) outer inner = outer ++ (codes "/" ++ inner)
 
 -- `join_path`: the two paths joined, or why not
 abbrev pub Joined : Path → Path → Result ModulePath PathFault → Type 0

@@ -3,7 +3,7 @@ ghost use Rattle.std.specs.Prelude.{◌≡◌, ◌≤◌, true, [], ◌∷◌, �
 ghost use Rattle.wesl_path.specs.Path.{path_of, is_path_text, shown, shown_origin, led, without_last_names, join_path, extended};
 ghost use Rattle.wesl_path.specs.Heads.{HeadOf};
 ghost use Rattle.wesl_path.specs.Texts.{path_text, path_value, components_value, name_text};
-ghost use Rattle.wesl_path.specs.Joins.{Given, Joined, Pushed, in_package};
+ghost use Rattle.wesl_path.specs.Joins.{Given, Joined, Pushed, read_from};
 
 use crate::components::Components;
 use crate::fault::PathFault;
@@ -33,20 +33,19 @@ fn without_last(text: &[u8], head: Head, n: usize) -> usize
 }
 
 /// A package read from inside another is one part further down.
-fn package_seam<'a>(base: &'a [u8], head: Head, suffix: &'a [u8]) -> Seam<'a>
-    requires { head.end ≤ length base.now }
-    ensures { result.front.now ++ (result.separator.now ++ result.back.now) ≡ in_package head.origin (take head.end base.now) suffix.now }
+fn package_seam<'a>(origin: PathOrigin, outer: &'a [u8], inner: &'a [u8]) -> Seam<'a>
+    ensures { result.front.now ++ (result.separator.now ++ result.back.now) ≡ read_from origin outer.now inner.now }
 {
-    match head.origin {
+    match origin {
         PathOrigin::Package(_) => Seam {
-            front: &base[..head.end],
+            front: outer,
             separator: b"/",
-            back: suffix,
+            back: inner,
         },
         PathOrigin::Absolute | PathOrigin::Relative(_) => Seam {
             front: b"",
             separator: b"",
-            back: suffix,
+            back: inner,
         },
     }
 }
@@ -70,7 +69,7 @@ fn find_seam<'a>(base: &'a ModulePath, suffix: &'a ModulePath) -> Seam<'a>
             separator: b"",
             back: &back[tail.end..],
         },
-        PathOrigin::Package(_) => package_seam(front, head, back),
+        PathOrigin::Package(_) => package_seam(head.origin, &front[..head.end], back),
     }
 }
 

@@ -34,15 +34,15 @@ impl Components {
     /// Reads components, or refuses bytes that are none.
     // A method and no `TryFrom`, whose clause would be a ghost member, and not stand here.
     #[tactic(auto, using(crate::proofs::ComponentFacts::test_from_components))]
-    pub fn read(bytes: &[u8]) -> Result<Components, PathFault>
-        ensures { MatchResult result (λ m. components_text m ≡ bytes.now) (λ e. (e ≡ PathFault.Malformed) × (AreComponents bytes.now → ⊥)) }
+    pub fn read(text: &[u8]) -> Result<Components, PathFault>
+        ensures { MatchResult result (λ m. components_text m ≡ text.now) (λ e. (e ≡ PathFault.Malformed) × (AreComponents text.now → ⊥)) }
     {
-        if !are_components(bytes) {
+        if !are_components(text) {
             return Err(PathFault::Malformed);
         }
-        let mut text = InlineBytes::new();
-        text.push(bytes)?;
-        Ok(Components { text })
+        let mut kept = InlineBytes::new();
+        kept.push(text)?;
+        Ok(Components { text: kept })
     }
 
     /// The bytes that the components are written as.

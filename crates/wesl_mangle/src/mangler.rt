@@ -14,6 +14,7 @@ pub trait Mangler {
     ghost meaning: { Self → Path → List ℕ → List ℕ };
 
     /// Writes the name to the front of `out` and answers its length, where it fits; else `out` stays as it is.
+    // The path and the item come apart, as in the crate's own trait, and go into a lent buffer, as nothing is allocated.
     fn mangle(
         &self,
         path: &ModulePath,

@@ -5,6 +5,7 @@ ghost use Rattle.wesl_table.specs.Places.{part};
 use crate::keyed::{ByBytes, Keyed};
 
 /// Where bytes lie in a text: a start and a length.
+// And no slice: the records that hold places are kept in lent cells, and their text is lent anew at each call.
 #[derive(Clone, Copy, Debug, PartialEq, Eq)]
 pub struct Place {
     pub start: usize,

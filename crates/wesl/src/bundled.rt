@@ -40,7 +40,7 @@ pub(crate) fn write_bundled<W: Write>(heap: Global, out: &mut W) -> Result<(), F
     writeln!(out, "Listing the modules of a bundle:")?;
     write_modules(heap, BUNDLE, out)?;
 
-    let bundle = Bundle::read(BUNDLE).map_err(|fault| Failure::Example(fault.number()))?;
+    let bundle = Bundle::read(BUNDLE).map_err(|_| Failure::Example)?;
     writeln!(out)?;
     writeln!(out, "Asking it for the texts of two modules:")?;
     write_asked(&bundle, HELD, out)?;
@@ -56,7 +56,7 @@ pub(crate) fn write_bundled<W: Write>(heap: Global, out: &mut W) -> Result<(), F
 }
 
 fn path_of(text: &str) -> Result<ModulePath, Failure> {
-    ModulePath::read(text.as_bytes()).map_err(|fault| Failure::Example(fault.number()))
+    ModulePath::read(text.as_bytes()).map_err(|_| Failure::Example)
 }
 
 /// Whether a text in memory at the path of the calibration is the bundle's.
@@ -66,7 +66,7 @@ fn write_compared<W: Write>(bundle: &Bundle<'_>, text: &[u8], out: &mut W) -> Re
     let mut memory = VirtualResolver::new(&mut cells);
     memory
         .add_module(&path, text)
-        .map_err(|fault| Failure::Example(fault.number()))?;
+        .map_err(|_| Failure::Example)?;
     let bytes = text.len();
     match first_difference(bundle, &memory, &[path]) {
         None => writeln!(out, "  {bytes} bytes: the same")?,

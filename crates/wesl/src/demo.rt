@@ -1,6 +1,4 @@
 //! `wesl demo`: names the declarations of a small package and looks for two of one name.
-ghost use Rattle.std.specs.Prelude.{◌≡◌};
-
 use crate::failure::Failure;
 use crate::naming::Declaration;
 use bstr::ByteSlice;
@@ -33,11 +31,12 @@ struct Row {
 
 impl Row {
     fn of(heap: Global, declaration: &Declaration) -> Result<Row, AllocError> {
+        let words = declaration.to_string(heap)?;
         let escaped = declaration.named(&EscapeMangler {});
         let lengths = declaration.named(&LengthMangler {});
         Ok(Row {
-            declaration: declaration.to_string(heap)?,
-            joined: joined(heap, declaration)?,
+            joined: joined(heap, words.as_str())?,
+            declaration: words,
             escaped: escaped.as_bytes().as_bstr().to_string(heap)?,
             lengths: lengths.as_bytes().as_bstr().to_string(heap)?,
         })
@@ -45,9 +44,8 @@ impl Row {
 }
 
 /// The words joined with `_`, and nothing to tell where one ends: what the Manglers are there to avoid.
-fn joined(heap: Global, declaration: &Declaration) -> Result<String, AllocError> {
-    let words = declaration.to_string(heap)?;
-    let words = words.as_str().replace(heap, "::", "_")?;
+fn joined(heap: Global, words: &str) -> Result<String, AllocError> {
+    let words = words.replace(heap, "::", "_")?;
     words.as_str().replace(heap, ['/', ' '], "_")
 }
 
@@ -109,12 +107,7 @@ fn write_table<W: Write>(rows: &[Row], out: &mut W) -> io::Result<()> {
     Ok(())
 }
 
-fn write_columns<W: Write>(
-    first: &str,
-    second: &str,
-    third: &str,
-    out: &mut W,
-) -> io::Result<()> {
+fn write_columns<W: Write>(first: &str, second: &str, third: &str, out: &mut W) -> io::Result<()> {
     writeln!(out, "  {first:<33}{second:<35}{third}")
 }
 
@@ -136,8 +129,9 @@ fn write_collisions<F: Fn(&Row) -> &str, W: Write>(
 ) -> io::Result<()>
     requires { F.IsAlwaysCallable name }
 {
-    let collisions: Vec<&(&Row, &Row)> = pairs
+    let collisions: Vec<(&Row, &Row)> = pairs
         .iter()
+        .copied()
         .filter(|(a, b)| name(a) == name(b))
         .collect(heap)?;
     for (a, b) in &collisions {

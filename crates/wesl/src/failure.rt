@@ -24,9 +24,8 @@ pub enum Failure {
     Refused(usize),
     #[error("the text is no bundle")]
     NoBundle,
-    /// A built-in example is none, by the library's number.
-    #[error("a built-in example is refused (refusal {0})")]
-    Example(u8),
+    #[error("a built-in example is refused")]
+    Example,
     #[error("cannot go on: {0}")]
     Io(#[from] io::Error),
     #[error("cannot go on: out of memory")]

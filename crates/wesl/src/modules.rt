@@ -45,10 +45,7 @@ fn write_module<W: Write>(
 ) -> io::Result<()> {
     let path = module.path.as_bstr();
     // A line is what a 0x0A ends.
-    let lines = Counted(
-        module.text.iter().filter(|b| **b == b'\n').count(),
-        "line",
-    );
+    let lines = Counted(module.text.iter().filter(|b| **b == b'\n').count(), "line");
     let bytes = Counted(module.text.len(), "byte");
     let mark = if is_first {
         ""

@@ -9,18 +9,19 @@ use wesl_mangle::{EscapeMangler, LengthMangler};
 /// Writes both names of each declaration, or why its line is refused. Lines that are refused keep no
 /// other from its names, and the failure comes after all of them.
 pub(crate) fn write_names<W: Write>(list: &[u8], out: &mut W) -> Result<(), Failure> {
+    // Counted saturating: with `+= 1` it stayed open that the sums fit, and the check refuses any invariant over this iterator.
     let mut named: usize = 0;
     let mut refused: usize = 0;
-    for line in list.split_inclusive(|b| *b == b'\n') {
+    for (i, line) in list.split_inclusive(|b| *b == b'\n').enumerate() {
         match Declaration::read(line.strip_suffix(b"\n").unwrap_or(line)) {
             Ok(declaration) => {
-                named = named.saturating_add(1);
                 write_named(&declaration, out)?;
+                named = named.saturating_add(1);
             }
             Err(refusal) => {
-                refused = refused.saturating_add(1);
-                let number = named.saturating_add(refused);
+                let number = i + 1;
                 writeln!(out, "line {number}: {refusal}")?;
+                refused = refused.saturating_add(1);
             }
         }
     }

@@ -6,21 +6,28 @@ ghost use Rattle.wesl_path.specs.Path.{IsPath};
 use crate::shown::Shown;
 use std::fmt;
 use std::str::from_utf8;
+use thiserror::Error;
 use wesl_path::{LONGEST_NAME, LONGEST_PATH, is_path, is_plain};
 
-#[derive(Clone, Copy)]
+#[derive(Clone, Copy, Debug, Error)]
 pub enum Reason {
+    #[error("the path is empty")]
     EmptyPath,
+    #[error("a path may have at most {most} bytes, and this one has {0}", most = LONGEST_PATH)]
     LongPath(usize),
+    #[error("a single colon, where only `::` parts components")]
     SingleColon,
+    #[error("{0} {1}")]
     Word(Role, WordFault),
     /// Where no better word is found.
+    #[error("this is no path")]
     NoPath,
+    #[error("this is no name")]
     NoName,
 }
 
 /// What a word was to be.
-#[derive(Clone, Copy)]
+#[derive(Clone, Copy, Debug)]
 pub enum Role {
     Path,
     Part,
@@ -28,12 +35,17 @@ pub enum Role {
     Name,
 }
 
-#[derive(Clone, Copy)]
+#[derive(Clone, Copy, Debug, Error)]
 pub enum WordFault {
+    #[error("may not be empty")]
     Empty,
+    #[error("may not begin with a digit")]
     DigitFirst,
+    #[error("may have at most {most} bytes, and this one has {0}", most = LONGEST_NAME)]
     Long(usize),
+    #[error("may not hold `{byte}`, which is no letter, digit or underscore", byte = Shown(&[*.0]))]
     Stray(u8),
+    #[error("may not be the reserved word `{0}`")]
     Reserved(&'static str),
 }
 
@@ -126,11 +138,9 @@ fn word_fault(word: &[u8]) -> Option<WordFault> {
     match word {
         [] => Some(WordFault::Empty),
         [b'0'..=b'9', ..] => Some(WordFault::DigitFirst),
-        _ => match stray_byte(word) {
-            Some(stray) => Some(WordFault::Stray(stray)),
-            None if word.len() > LONGEST_NAME => Some(WordFault::Long(word.len())),
-            None => None,
-        },
+        _ => stray_byte(word).map(WordFault::Stray).or(
+            (word.len() > LONGEST_NAME).then_some(WordFault::Long(word.len())),
+        ),
     }
 }
 
@@ -141,24 +151,6 @@ fn stray_byte(word: &[u8]) -> Option<u8> {
         .find(|b| !b.is_ascii_alphanumeric() && *b != b'_')
 }
 
-impl fmt::Display for Reason {
-    fn fmt<W: fmt::Write>(&self, f: &mut fmt::Formatter<W>) -> fmt::Result {
-        match *self {
-            Reason::EmptyPath => f.write_str("the path is empty"),
-            Reason::LongPath(len) => {
-                write!(
-                    f,
-                    "a path may have at most {LONGEST_PATH} bytes, and this one has {len}"
-                )
-            }
-            Reason::SingleColon => f.write_str("a single colon, where only `::` parts components"),
-            Reason::Word(role, fault) => write!(f, "{role} {fault}"),
-            Reason::NoPath => f.write_str("this is no path"),
-            Reason::NoName => f.write_str("this is no name"),
-        }
-    }
-}
-
 impl fmt::Display for Role {
     fn fmt<W: fmt::Write>(&self, f: &mut fmt::Formatter<W>) -> fmt::Result {
         f.write_str(match *self {
@@ -167,28 +159,6 @@ impl fmt::Display for Role {
             Role::Component => "a component",
             Role::Name => "a name",
         })
-    }
-}
-
-impl fmt::Display for WordFault {
-    fn fmt<W: fmt::Write>(&self, f: &mut fmt::Formatter<W>) -> fmt::Result {
-        match *self {
-            WordFault::Empty => f.write_str("may not be empty"),
-            WordFault::DigitFirst => f.write_str("may not begin with a digit"),
-            WordFault::Long(len) => write!(
-                f,
-                "may have at most {LONGEST_NAME} bytes, and this one has {len}"
-            ),
-            WordFault::Stray(byte) => {
-                let bytes = [byte];
-                let shown = Shown(&bytes);
-                write!(
-                    f,
-                    "may not hold `{shown}`, which is no letter, digit or underscore"
-                )
-            }
-            WordFault::Reserved(word) => write!(f, "may not be the reserved word `{word}`"),
-        }
     }
 }
 

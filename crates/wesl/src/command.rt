@@ -15,9 +15,8 @@ pub enum Command {
 
 impl Command {
     pub(crate) fn of(rt: &HostRuntime) -> Result<Command, Failure> {
-        let mut words = env::args(rt).map_err(Failure::Arguments)?;
-        // The program's own name.
-        let _ = words.next();
+        // Those after the program's own name.
+        let mut words = env::args(rt).map_err(Failure::Arguments)?.skip(1);
         let Some(word) = words.next() else {
             return Ok(Command::Demo);
         };

@@ -25,16 +25,16 @@ pub(crate) fn write_modules<W: Write>(
 }
 
 fn write_list<W: Write>(heap: Global, bundle: &Bundle<'_>, out: &mut W) -> io::Result<()> {
+    let modules: Vec<BundleModule<'_>> = bundle.modules().collect(heap)?;
     let mut paths = BTreeSet::new(heap);
-    for module in bundle.modules() {
+    for module in &modules {
         let is_first = paths.insert(module.path)?;
-        write_module(&module, is_first, out)?;
+        write_module(module, is_first, out)?;
     }
-    let count = bundle.modules().count();
-    let modules = Counted(count, "module");
-    match count.saturating_sub(paths.len()) {
-        0 => writeln!(out, "{modules}"),
-        again => writeln!(out, "{modules}, {again} of them again"),
+    let count = Counted(modules.len(), "module");
+    match modules.len() - paths.len() {
+        0 => writeln!(out, "{count}"),
+        again => writeln!(out, "{count}, {again} of them again"),
     }
 }
 

@@ -8,109 +8,96 @@ use wesl_mangle::{EscapeMangler, MangledName};
 use wesl_path::{Components, ModulePath, PathFault, PlainName};
 
 /// The paths of the test in mangle.rs, each with the item `item`.
-const PUBLISHED: [&[u8]; 8] = [
-    b"package::bevy_pbr::lighting",
-    b"a_b::c_d::e",
-    b"self::a",
-    b"super::super",
-    b"package::_a_b__c___",
-    b"bevy/pbr",
-    b"bevy/pbr::lighting",
-    b"bevy_pbr::lighting",
+const PUBLISHED: [&str; 8] = [
+    "package::bevy_pbr::lighting",
+    "a_b::c_d::e",
+    "self::a",
+    "super::super",
+    "package::_a_b__c___",
+    "bevy/pbr",
+    "bevy/pbr::lighting",
+    "bevy_pbr::lighting",
 ];
 
 /// A path, and what is appended to it.
-const APPENDED: [(&[u8], &[u8]); 4] = [
-    (b"package", b"cal"),
-    (b"super", b"strain::gauge_a"),
-    (b"sensors/filters", b"window"),
-    (b"package::a", b"9"),
+const APPENDED: [(&str, &str); 4] = [
+    ("package", "cal"),
+    ("super", "strain::gauge_a"),
+    ("sensors/filters", "window"),
+    ("package::a", "9"),
 ];
 
 /// A module's path, and a path that stands in it.
-const READ_FROM: [(&[u8], &[u8]); 6] = [
-    (b"package::a::b", b"super::c"),
-    (b"p::a", b"q::x"),
-    (b"package::a", b"super::super::super::x"),
-    (b"p/q::a", b"package::z"),
-    (b"package", b"q/r::x"),
-    (b"self::a", b"super"),
+const READ_FROM: [(&str, &str); 6] = [
+    ("package::a::b", "super::c"),
+    ("p::a", "q::x"),
+    ("package::a", "super::super::super::x"),
+    ("p/q::a", "package::z"),
+    ("package", "q/r::x"),
+    ("self::a", "super"),
 ];
 
 fn main(rt: HostRuntime) -> io::Result<()> {
     let mut out = BufWriter::new(rt.alloc(), rt.stdout())?;
     for path in PUBLISHED {
-        write_name(path, &mut out)?;
+        write!(out, "{path}::item -> ")?;
+        let name = named(path);
+        write_answer(name.as_ref().map(|name| name.as_bytes()), &mut out)?;
     }
-    for (path, components) in APPENDED {
-        write_result(
-            path,
-            b" + ",
-            components,
-            appended(path, components),
-            &mut out,
-        )?;
-    }
-    for (path, item) in APPENDED {
-        write_result(path, b" push ", item, pushed(path, item), &mut out)?;
-    }
-    for (path, suffix) in READ_FROM {
-        write_result(path, b" reads ", suffix, read_from(path, suffix), &mut out)?;
-    }
+    write_results(&APPENDED, "+", appended, &mut out)?;
+    write_results(&APPENDED, "push", pushed, &mut out)?;
+    write_results(&READ_FROM, "reads", read_from, &mut out)?;
     out.flush()
 }
 
-fn write_name<W: Write>(path: &[u8], out: &mut W) -> io::Result<()> {
-    out.write_all(path)?;
-    out.write_all(b"::item -> ")?;
-    match named(path) {
-        Ok(name) => out.write_all(name.as_bytes())?,
-        Err(fault) => write_fault(fault, out)?,
-    }
-    out.write_all(b"\n")
-}
-
-fn named(path: &[u8]) -> Result<MangledName, PathFault> {
-    let path = ModulePath::read(path)?;
+fn named(path: &str) -> Result<MangledName, PathFault> {
+    let path = ModulePath::read(path.as_bytes())?;
     let item = PlainName::read(b"item")?;
     Ok(MangledName::of(&EscapeMangler {}, &path, &item))
 }
 
-fn appended(path: &[u8], components: &[u8]) -> Result<ModulePath, PathFault> {
-    let path = ModulePath::read(path)?;
-    path.join(&Components::read(components)?)
+fn appended(path: &str, components: &str) -> Result<ModulePath, PathFault> {
+    let path = ModulePath::read(path.as_bytes())?;
+    path.join(&Components::read(components.as_bytes())?)
 }
 
-fn pushed(path: &[u8], item: &[u8]) -> Result<ModulePath, PathFault> {
-    let mut path = ModulePath::read(path)?;
-    path.push(&PlainName::read(item)?)?;
+fn pushed(path: &str, item: &str) -> Result<ModulePath, PathFault> {
+    let mut path = ModulePath::read(path.as_bytes())?;
+    path.push(&PlainName::read(item.as_bytes())?)?;
     Ok(path)
 }
 
-fn read_from(path: &[u8], suffix: &[u8]) -> Result<ModulePath, PathFault> {
-    let path = ModulePath::read(path)?;
-    path.join_path(&ModulePath::read(suffix)?)
+fn read_from(path: &str, suffix: &str) -> Result<ModulePath, PathFault> {
+    let path = ModulePath::read(path.as_bytes())?;
+    path.join_path(&ModulePath::read(suffix.as_bytes())?)
 }
 
-fn write_result<W: Write>(
-    path: &[u8],
-    how: &[u8],
-    more: &[u8],
-    res: Result<ModulePath, PathFault>,
+/// What each path becomes with its text, by `put`.
+fn write_results<F: Fn(&str, &str) -> Result<ModulePath, PathFault>, W: Write>(
+    pairs: &[(&str, &str)],
+    how: &str,
+    put: F,
     out: &mut W,
-) -> io::Result<()> {
-    out.write_all(path)?;
-    out.write_all(how)?;
-    out.write_all(more)?;
-    out.write_all(b" = ")?;
-    match res {
-        Ok(path) => out.write_all(path.as_bytes())?,
-        Err(fault) => write_fault(fault, out)?,
+) -> io::Result<()>
+    requires { F.IsAlwaysCallable put }
+{
+    for (path, text) in pairs {
+        write!(out, "{path} {how} {text} = ")?;
+        let result = put(path, text);
+        write_answer(result.as_ref().map(|path| path.as_bytes()), out)?;
     }
-    out.write_all(b"\n")
+    Ok(())
 }
 
-fn write_fault<W: Write>(fault: PathFault, out: &mut W) -> io::Result<()> {
-    let number = fault.number();
-    write!(out, "refused {number}")
+fn write_answer<W: Write>(answer: Result<&[u8], &PathFault>, out: &mut W) -> io::Result<()> {
+    match answer {
+        Ok(text) => {
+            out.write_all(text)?;
+            writeln!(out)
+        }
+        Err(fault) => {
+            let number = fault.number();
+            writeln!(out, "refused {number}")
+        }
+    }
 }

@@ -1,12 +1,13 @@
 //! The answer to each command: one function each.
 use crate::command::Command;
-use std::alloc::Global;
+use bstr::ByteSlice;
+use std::alloc::{AllocError, Global};
 use std::collections::BTreeSet;
 use std::io;
 use std::io::Write;
 use wesl_mangle::{EscapeMangler, LengthMangler, MangledName};
 use wesl_path::{ModulePath, PathFault, PathOrigin, PlainName, is_plain};
-use wesl_resolve::Bundle;
+use wesl_resolve::{Bundle, BundleModule};
 
 pub(crate) fn answer_to<W: Write>(
     heap: Global,
@@ -19,7 +20,7 @@ pub(crate) fn answer_to<W: Write>(
         Command::Join(base, suffix) => answer_join(base, suffix, out),
         Command::Mangle(path, item) => answer_mangle(path, item, out),
         Command::Bundle(text) => answer_bundle(heap, text, out),
-        Command::Unknown => out.write_all(b"unknown\n"),
+        Command::Unknown => writeln!(out, "unknown"),
     }
 }
 
@@ -31,13 +32,12 @@ fn answer_plain<W: Write>(name: &[u8], out: &mut W) -> io::Result<()> {
 fn answer_path<W: Write>(text: &[u8], out: &mut W) -> io::Result<()> {
     match ModulePath::read(text) {
         Ok(path) => {
-            let (origin, number) = match path.origin() {
-                PathOrigin::Absolute => ("absolute", 0),
-                PathOrigin::Relative(ups) => ("relative", ups),
-                PathOrigin::Package(parts) => ("package", parts),
-            };
             let components = path.component_count();
-            writeln!(out, "path\t{origin}\t{number}\t{components}")
+            match path.origin() {
+                PathOrigin::Absolute => writeln!(out, "path\tabsolute\t0\t{components}"),
+                PathOrigin::Relative(ups) => writeln!(out, "path\trelative\t{ups}\t{components}"),
+                PathOrigin::Package(parts) => writeln!(out, "path\tpackage\t{parts}\t{components}"),
+            }
         }
         Err(fault) => answer_refused("path", fault.number(), out),
     }
@@ -45,19 +45,9 @@ fn answer_path<W: Write>(text: &[u8], out: &mut W) -> io::Result<()> {
 
 fn answer_join<W: Write>(base: &[u8], suffix: &[u8], out: &mut W) -> io::Result<()> {
     match joined(base, suffix) {
-        Ok(path) => {
-            out.write_all(b"join\tok\t")?;
-            out.write_all(path.as_bytes())?;
-            out.write_all(b"\n")
-        }
-        Err(fault) => answer_not_joined(fault, out),
-    }
-}
-
-fn answer_not_joined<W: Write>(fault: PathFault, out: &mut W) -> io::Result<()> {
-    match fault {
-        PathFault::Long => out.write_all(b"join\tlong\n"),
-        PathFault::Malformed | PathFault::Relative => answer_refused("join", fault.number(), out),
+        Ok(path) => writeln!(out, "join\tok\t{}", path.as_bytes().as_bstr()),
+        Err(PathFault::Long) => writeln!(out, "join\tlong"),
+        Err(fault) => answer_refused("join", fault.number(), out),
     }
 }
 
@@ -68,39 +58,26 @@ fn joined(base: &[u8], suffix: &[u8]) -> Result<ModulePath, PathFault> {
 }
 
 fn answer_mangle<W: Write>(path: &[u8], item: &[u8], out: &mut W) -> io::Result<()> {
-    match Names::of(path, item) {
-        Ok(names) => {
-            out.write_all(b"mangle\tok\t")?;
-            out.write_all(names.escaped.as_bytes())?;
-            out.write_all(b"\t")?;
-            out.write_all(names.lengths.as_bytes())?;
-            out.write_all(b"\n")
+    match declared(path, item) {
+        Ok((path, item)) => {
+            let escaped = MangledName::of(&EscapeMangler {}, &path, &item);
+            let lengths = MangledName::of(&LengthMangler {}, &path, &item);
+            let escaped = escaped.as_bytes().as_bstr();
+            let lengths = lengths.as_bytes().as_bstr();
+            writeln!(out, "mangle\tok\t{escaped}\t{lengths}")
         }
         Err(fault) => answer_refused("mangle", fault.number(), out),
     }
 }
 
-/// What a declaration is called by the two Manglers.
-#[derive(Clone, Copy)]
-struct Names {
-    escaped: MangledName,
-    lengths: MangledName,
-}
-
-impl Names {
-    fn of(path: &[u8], item: &[u8]) -> Result<Names, PathFault> {
-        let path = ModulePath::read(path)?;
-        let item = PlainName::read(item)?;
-        Ok(Names {
-            escaped: MangledName::of(&EscapeMangler {}, &path, &item),
-            lengths: MangledName::of(&LengthMangler {}, &path, &item),
-        })
-    }
+/// The module's path and the name that are mangled.
+fn declared(path: &[u8], item: &[u8]) -> Result<(ModulePath, PlainName), PathFault> {
+    Ok((ModulePath::read(path)?, PlainName::read(item)?))
 }
 
 fn answer_bundle<W: Write>(heap: Global, text: &[u8], out: &mut W) -> io::Result<()> {
     match Bundle::read(text) {
-        Ok(bundle) => answer_modules(heap, &bundle, out),
+        Ok(bundle) => answer_modules(first_modules(heap, &bundle)?.as_slice(), out),
         Err(fault) => {
             let number = fault.number();
             let line = fault.line();
@@ -109,21 +86,29 @@ fn answer_bundle<W: Write>(heap: Global, text: &[u8], out: &mut W) -> io::Result
     }
 }
 
-/// Each path once, in the order of its first module.
-fn answer_modules<W: Write>(heap: Global, bundle: &Bundle<'_>, out: &mut W) -> io::Result<()> {
+/// The first module at each path, in their order.
+fn first_modules<'t>(
+    heap: Global,
+    bundle: &Bundle<'t>,
+) -> Result<Vec<BundleModule<'t>>, AllocError> {
     let mut seen = BTreeSet::new(heap);
-    let mut answer = Vec::new(heap);
+    let mut firsts = Vec::new(heap);
     for module in bundle.modules() {
-        if seen.insert(module.path.to_vec(heap)?)? {
-            let bytes = module.text.len();
-            answer.extend_from_slice(b"module\t")?;
-            answer.extend_from_slice(module.path)?;
-            writeln!(answer, "\t{bytes}")?;
+        if seen.insert(module.path)? {
+            firsts.push(module)?;
         }
     }
-    let count = seen.len();
-    writeln!(out, "bundle\tok\t{count}")?;
-    out.write_all(answer.as_slice())
+    Ok(firsts)
+}
+
+fn answer_modules<W: Write>(modules: &[BundleModule<'_>], out: &mut W) -> io::Result<()> {
+    writeln!(out, "bundle\tok\t{}", modules.len())?;
+    for module in modules {
+        let path = module.path.as_bstr();
+        let bytes = module.text.len();
+        writeln!(out, "module\t{path}\t{bytes}")?;
+    }
+    Ok(())
 }
 
 fn answer_refused<W: Write>(word: &str, number: u8, out: &mut W) -> io::Result<()> {

@@ -2,6 +2,7 @@
 ghost use Rattle.std.specs.Prelude.{◌<◌, ◌≤◌, length};
 ghost use Rattle.std.specs.Iterator.{at_most};
 
+use bstr::ByteSlice;
 use std::str::from_utf8;
 
 /// A command with its arguments, which may hold any byte but 0x0A, so they are no text.
@@ -39,7 +40,7 @@ impl<'a> Iterator for Commands<'a> {
             return None;
         }
         // A last line that no 0x0A ends is a line all the same.
-        let (line, rest) = cut(input, b'\n');
+        let (line, rest) = cut(input, b"\n");
         let size = text_size(line);
         let (text, rest) = cut_text(size, rest);
         self.rest = rest;
@@ -49,11 +50,11 @@ impl<'a> Iterator for Commands<'a> {
 
 /// How many bytes of text follow the line: as many as the last field of a command says that takes a text.
 fn text_size(line: &[u8]) -> Option<usize> {
-    let (word, arguments) = cut(line, b'\t');
+    let (word, arguments) = cut(line, b"\t");
     let size = match word {
         b"bundle" => arguments,
         // Not answered yet, and its text is no list of commands.
-        b"read" => cut(arguments, b'\t').1,
+        b"read" => cut(arguments, b"\t").1,
         _ => return None,
     };
     Some(from_utf8(size).unwrap_or("").parse().unwrap_or(0))
@@ -68,22 +69,22 @@ fn cut_text(size: Option<usize>, rest: &[u8]) -> (&[u8], &[u8])
     };
     let end = size.min(rest.len());
     let next = (end + 1).min(rest.len());
-    (&rest[0..end], &rest[next..])
+    (&rest[..end], &rest[next..])
 }
 
 /// The command of a line and the text that follows it. An argument that is not there is an empty one: it is then refused as an
 /// empty one would be, and every line has an answer.
 fn command_of<'a>(line: &'a [u8], text: &'a [u8]) -> Command<'a> {
-    let (word, rest) = cut(line, b'\t');
+    let (word, rest) = cut(line, b"\t");
     match word {
         b"plain" => Command::Plain(rest),
         b"path" => Command::Path(rest),
         b"join" => {
-            let (base, suffix) = cut(rest, b'\t');
+            let (base, suffix) = cut(rest, b"\t");
             Command::Join(base, suffix)
         }
         b"mangle" => {
-            let (path, item) = cut(rest, b'\t');
+            let (path, item) = cut(rest, b"\t");
             Command::Mangle(path, item)
         }
         b"bundle" => Command::Bundle(text),
@@ -92,13 +93,8 @@ fn command_of<'a>(line: &'a [u8], text: &'a [u8]) -> Command<'a> {
 }
 
 /// What stands before the first `mark`, and what after it; all and nothing where there is none.
-fn cut(bytes: &[u8], mark: u8) -> (&[u8], &[u8])
+fn cut<'a>(bytes: &'a [u8], mark: &[u8; 1]) -> (&'a [u8], &'a [u8])
     ensures { 0 < length bytes.now → length result.1.now < length bytes.now }
 {
-    for (i, b) in bytes.iter().enumerate() {
-        if *b == mark {
-            return (&bytes[0..i], &bytes[i + 1..]);
-        }
-    }
-    (bytes, &[])
+    bytes.split_once_str(mark).unwrap_or((bytes, &[]))
 }

@@ -13,18 +13,9 @@ pub struct BrokenLine<'a> {
 
 /// The line of a number, counted from 1, with the 0x0A that ends it.
 fn line_of(text: &[u8], number: usize) -> &[u8] {
-    let mut line = 1;
-    let mut start = 0;
-    for (i, b) in text.iter().enumerate() {
-        if *b == b'\n' {
-            if line >= number {
-                return &text[start..i + 1];
-            }
-            line += 1;
-            start = i + 1;
-        }
-    }
-    &text[start..]
+    text.split_inclusive(|b| *b == b'\n')
+        .nth(number.saturating_sub(1))
+        .unwrap_or(&[])
 }
 
 impl fmt::Display for BrokenLine<'_> {

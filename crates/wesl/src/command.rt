@@ -15,12 +15,8 @@ pub enum Command {
 
 impl Command {
     pub(crate) fn of(rt: &HostRuntime) -> Result<Command, Failure> {
-        let mut words = match env::args(rt) {
-            Ok(words) => words,
-            Err(error) => return Err(Failure::Arguments(error)),
-        };
-        // The program's own name.
-        let _ = words.next();
+        // Those after the program's own name.
+        let mut words = env::args(rt).map_err(Failure::Arguments)?.skip(1);
         let Some(word) = words.next() else {
             return Ok(Command::Demo);
         };
@@ -32,9 +28,9 @@ impl Command {
             "modules" => Command::Modules(words.next()),
             _ => return Err(Failure::UnknownWord(word)),
         };
-        match words.next() {
-            Some(extra) => Err(Failure::ExtraWord(extra)),
-            None => Ok(command),
+        if let Some(extra) = words.next() {
+            return Err(Failure::ExtraWord(extra));
         }
+        Ok(command)
     }
 }

@@ -1,7 +1,9 @@
 //! `wesl demo`: names the declarations of a small package and looks for two of one name.
 use crate::failure::Failure;
-use crate::naming::{Declaration, Refusal, text_of};
+use crate::naming::Declaration;
+use bstr::ByteSlice;
 use std::alloc::{AllocError, Global};
+use std::io;
 use std::io::Write;
 use wesl_mangle::{EscapeMangler, LengthMangler};
 
@@ -29,39 +31,22 @@ struct Row {
 
 impl Row {
     fn of(heap: Global, declaration: &Declaration) -> Result<Row, AllocError> {
+        let words = declaration.to_string(heap)?;
         let escaped = declaration.named(&EscapeMangler {});
         let lengths = declaration.named(&LengthMangler {});
         Ok(Row {
-            declaration: format!(in heap; "{declaration}")?,
-            joined: joined(heap, declaration)?,
-            escaped: String::from_str(heap, text_of(escaped.as_bytes()))?,
-            lengths: String::from_str(heap, text_of(lengths.as_bytes()))?,
+            joined: joined(heap, words.as_str())?,
+            declaration: words,
+            escaped: escaped.as_bytes().as_bstr().to_string(heap)?,
+            lengths: lengths.as_bytes().as_bstr().to_string(heap)?,
         })
     }
-
-    fn name(&self, way: Way) -> &str {
-        match way {
-            Way::Joined => self.joined.as_str(),
-            Way::Escape => self.escaped.as_str(),
-            Way::Length => self.lengths.as_str(),
-        }
-    }
-}
-
-/// A way to make one name of a declaration's words.
-#[derive(Clone, Copy)]
-enum Way {
-    Joined,
-    Escape,
-    Length,
 }
 
 /// The words joined with `_`, and nothing to tell where one ends: what the Manglers are there to avoid.
-fn joined(heap: Global, declaration: &Declaration) -> Result<String, AllocError> {
-    let path = declaration.path().replace(heap, "::", "_")?;
-    let path = path.as_str().replace(heap, "/", "_")?;
-    let item = declaration.item();
-    format!(in heap; "{path}_{item}")
+fn joined(heap: Global, words: &str) -> Result<String, AllocError> {
+    let words = words.replace(heap, "::", "_")?;
+    words.as_str().replace(heap, ['/', ' '], "_")
 }
 
 pub(crate) fn write_demo<W: Write>(heap: Global, out: &mut W) -> Result<(), Failure> {
@@ -80,16 +65,19 @@ pub(crate) fn write_demo<W: Write>(heap: Global, out: &mut W) -> Result<(), Fail
     )?;
     write_table(rows, out)?;
 
+    let pairs = pairs_of(heap, rows)?;
+    let pairs = pairs.as_slice();
     writeln!(out)?;
     writeln!(
         out,
         "Comparing every two names, had the words only been joined with `_`:"
     )?;
-    write_collisions(rows, Way::Joined, out)?;
+    write_collisions(heap, pairs, |row| row.joined.as_str(), out)?;
     writeln!(out, "Comparing every two names of the escape Mangler:")?;
-    write_collisions(rows, Way::Escape, out)?;
+    write_collisions(heap, pairs, |row| row.escaped.as_str(), out)?;
     writeln!(out, "Comparing every two names of the length Mangler:")?;
-    write_collisions(rows, Way::Length, out)
+    write_collisions(heap, pairs, |row| row.lengths.as_str(), out)?;
+    Ok(())
 }
 
 fn read_example<W: Write>(heap: Global, out: &mut W) -> Result<Vec<Row>, Failure> {
@@ -100,84 +88,61 @@ fn read_example<W: Write>(heap: Global, out: &mut W) -> Result<Vec<Row>, Failure
                 writeln!(out, "  read {declaration}")?;
                 rows.push(Row::of(heap, &declaration)?)?;
             }
-            Err(refused) => {
-                let refusal = Refusal {
-                    line: line.as_bytes(),
-                    refused,
-                };
-                writeln!(out, "  refused {refusal}")?;
-            }
+            Err(refusal) => writeln!(out, "  refused {refusal}")?,
         }
     }
     Ok(rows)
 }
 
-fn write_table<W: Write>(rows: &[Row], out: &mut W) -> Result<(), Failure> {
+fn write_table<W: Write>(rows: &[Row], out: &mut W) -> io::Result<()> {
     write_columns("declaration", "escape Mangler", "length Mangler", out)?;
     for row in rows {
-        let declaration = row.declaration.as_str();
         write_columns(
-            declaration,
-            row.name(Way::Escape),
-            row.name(Way::Length),
+            row.declaration.as_str(),
+            row.escaped.as_str(),
+            row.lengths.as_str(),
             out,
         )?;
     }
     Ok(())
 }
 
-fn write_columns<W: Write>(
-    first: &str,
-    second: &str,
-    third: &str,
-    out: &mut W,
-) -> Result<(), Failure> {
-    writeln!(out, "  {first:<33}{second:<35}{third}")?;
-    Ok(())
+fn write_columns<W: Write>(first: &str, second: &str, third: &str, out: &mut W) -> io::Result<()> {
+    writeln!(out, "  {first:<33}{second:<35}{third}")
 }
 
-fn write_collisions<W: Write>(rows: &[Row], way: Way, out: &mut W) -> Result<(), Failure> {
-    let mut tally = Tally { pairs: 0, equal: 0 };
+/// Every two rows, each two once: a row with those before it.
+fn pairs_of(heap: Global, rows: &[Row]) -> Result<Vec<(&Row, &Row)>, AllocError> {
+    let mut pairs = Vec::new(heap);
     for (i, row) in rows.iter().enumerate() {
-        // With those before it alone, so that each pair is compared once.
-        compare(&rows[0..i], row, way, &mut tally, out)?;
+        pairs.extend(rows[..i].iter().map(|other| (other, row)))?;
     }
-    let Tally { pairs, equal } = tally;
-    match equal {
-        0 => writeln!(out, "  {pairs} pairs compared: none share a name")?,
-        _ => writeln!(out, "  {pairs} pairs compared: {equal} share a name")?,
-    }
-    Ok(())
+    Ok(pairs)
 }
 
-/// How many pairs were compared, and how many of them have one name.
-#[derive(Clone, Copy)]
-struct Tally {
-    pairs: usize,
-    equal: usize,
-}
-
-fn compare<W: Write>(
-    others: &[Row],
-    row: &Row,
-    way: Way,
-    tally: &mut Tally,
+/// Which of the pairs have one name, where `name` names a row.
+fn write_collisions<F: Fn(&Row) -> &str, W: Write>(
+    heap: Global,
+    pairs: &[(&Row, &Row)],
+    name: F,
     out: &mut W,
-) -> Result<(), Failure> {
-    for other in others {
-        tally.pairs = tally.pairs.saturating_add(1);
-        if other.name(way) == row.name(way) {
-            tally.equal = tally.equal.saturating_add(1);
-            write_collision(other, row, way, out)?;
-        }
+) -> io::Result<()>
+    requires { F.IsAlwaysCallable name }
+{
+    let collisions: Vec<(&Row, &Row)> = pairs
+        .iter()
+        .copied()
+        .filter(|(a, b)| name(a) == name(b))
+        .collect(heap)?;
+    for (a, b) in &collisions {
+        let first = a.declaration.as_str();
+        let second = b.declaration.as_str();
+        let name = name(a);
+        writeln!(out, "  {first} and {second} share the name {name}")?;
     }
-    Ok(())
-}
-
-fn write_collision<W: Write>(a: &Row, b: &Row, way: Way, out: &mut W) -> Result<(), Failure> {
-    let first = a.declaration.as_str();
-    let second = b.declaration.as_str();
-    let name = a.name(way);
-    writeln!(out, "  {first} and {second} share the name {name}")?;
-    Ok(())
+    let compared = pairs.len();
+    match collisions.len() {
+        0 => writeln!(out, "  {compared} pairs compared: none share a name"),
+        equal => writeln!(out, "  {compared} pairs compared: {equal} share a name"),
+    }
 }

@@ -1,67 +1,33 @@
 //! Why the program ends with status 1.
 use crate::shown::Shown;
-use std::alloc::{AllocError, AllocFailed};
-use std::{fmt, io};
+use std::alloc::AllocError;
+use std::io;
+use thiserror::Error;
 
 const HINT: &str = "`wesl help` shows how it is used";
 
-#[derive(Drop)]
+// An enum, and no `anyhow::Error`: that one keeps 120 bytes of a message, and a word alone may be shown with 255.
+#[derive(Debug, Drop, Error)]
 pub enum Failure {
+    #[error("unknown word: `{word}`", word = Shown(.0.as_bytes()))]
     UnknownWord(String),
+    #[error("one word too many: `{word}`; {hint}", word = Shown(.0.as_bytes()), hint = HINT)]
     ExtraWord(String),
+    #[error("cannot read the arguments, which are to be UTF-8: {0}; {hint}", hint = HINT)]
     Arguments(io::Error),
-    /// A file, or standard input.
-    Unreadable(Option<String>, io::Error),
+    #[error("cannot read `{file}`: {1}; {hint}", file = Shown(.0.as_bytes()), hint = HINT)]
+    UnreadableFile(String, io::Error),
+    #[error("cannot read standard input: {0}; {hint}", hint = HINT)]
+    UnreadableInput(io::Error),
     /// So many lines of a list.
+    #[error("lines refused: {0}")]
     Refused(usize),
+    #[error("the text is no bundle")]
     NoBundle,
-    Io(io::Error),
-}
-
-impl fmt::Display for Failure {
-    fn fmt<W: fmt::Write>(&self, f: &mut fmt::Formatter<W>) -> fmt::Result {
-        match self {
-            Failure::UnknownWord(word) => {
-                let word = Shown(word.as_bytes());
-                write!(f, "unknown word: `{word}`")
-            }
-            Failure::ExtraWord(word) => {
-                let word = Shown(word.as_bytes());
-                write!(f, "one word too many: `{word}`; {HINT}")
-            }
-            Failure::Arguments(error) => write!(
-                f,
-                "cannot read the arguments, which are to be UTF-8: {error}; {HINT}"
-            ),
-            Failure::Unreadable(Some(file), error) => {
-                let file = Shown(file.as_bytes());
-                write!(f, "cannot read `{file}`: {error}; {HINT}")
-            }
-            Failure::Unreadable(None, error) => write!(
-                f,
-                "cannot read standard input: {error}; {HINT}"
-            ),
-            Failure::Refused(count) => write!(f, "lines refused: {count}"),
-            Failure::NoBundle => f.write_str("the text is no bundle"),
-            Failure::Io(error) => write!(f, "cannot go on: {error}"),
-        }
-    }
-}
-
-impl From<io::Error> for Failure {
-    fn from(error: io::Error) -> Failure {
-        Failure::Io(error)
-    }
-}
-
-impl From<AllocError> for Failure {
-    fn from(error: AllocError) -> Failure {
-        Failure::Io(error.into())
-    }
-}
-
-impl<T: Drop> From<AllocFailed<T>> for Failure {
-    fn from(refused: AllocFailed<T>) -> Failure {
-        Failure::Io(refused.into())
-    }
+    #[error("a built-in example is refused")]
+    Example,
+    #[error("cannot go on: {0}")]
+    Io(#[from] io::Error),
+    #[error("cannot go on: out of memory")]
+    Memory(#[from(alloc)] AllocError),
 }

@@ -56,10 +56,10 @@ fn run(rt: &HostRuntime) -> Result<(), Failure> {
     let result = match Command::of(rt)? {
         Command::Demo => write_demo(rt.alloc(), &mut out),
         Command::DemoBundle => write_bundled(rt.alloc(), &mut out),
-        Command::Help => write_help(&mut out),
+        Command::Help => out.write_all(USAGE.as_bytes()).map_err(Failure::Io),
         Command::Names(file) => {
             let list = read_list(rt, file)?;
-            write_names(rt.alloc(), list.as_slice(), &mut out)
+            write_names(list.as_slice(), &mut out)
         }
         Command::Modules(file) => {
             let bundle = read_list(rt, file)?;
@@ -70,19 +70,12 @@ fn run(rt: &HostRuntime) -> Result<(), Failure> {
     result
 }
 
-fn write_help<W: Write>(out: &mut W) -> Result<(), Failure> {
-    out.write_all(USAGE.as_bytes())?;
-    Ok(())
-}
-
 fn read_list(rt: &HostRuntime, file: Option<String>) -> Result<Vec<u8>, Failure> {
-    let read = match &file {
-        Some(file) => fs::read(rt, file.as_str()),
-        None => read_stdin(rt),
-    };
-    match read {
-        Ok(bytes) => Ok(bytes),
-        Err(error) => Err(Failure::Unreadable(file, error)),
+    match file {
+        Some(file) => {
+            fs::read(rt, file.as_str()).map_err(|error| Failure::UnreadableFile(file, error))
+        }
+        None => read_stdin(rt).map_err(Failure::UnreadableInput),
     }
 }
 

@@ -1,18 +1,12 @@
 //! `wesl modules`: lists the modules of a bundle.
 use crate::broken::BrokenLine;
 use crate::failure::Failure;
-use crate::naming::text_of;
+use bstr::ByteSlice;
 use std::alloc::Global;
 use std::collections::BTreeSet;
 use std::io::Write;
-use wesl_resolve::Bundle;
-
-/// How many modules there are, and how many of them at a path that had one before.
-#[derive(Clone, Copy)]
-struct Tally {
-    modules: usize,
-    again: usize,
-}
+use std::{fmt, io};
+use wesl_resolve::{Bundle, BundleModule};
 
 /// Writes the path, the lines and the bytes of each module, or why the text is no bundle.
 pub(crate) fn write_modules<W: Write>(
@@ -21,7 +15,7 @@ pub(crate) fn write_modules<W: Write>(
     out: &mut W,
 ) -> Result<(), Failure> {
     match Bundle::read(text) {
-        Ok(bundle) => write_list(heap, &bundle, out),
+        Ok(bundle) => Ok(write_list(heap, &bundle, out)?),
         Err(fault) => {
             let broken = BrokenLine { text, fault };
             writeln!(out, "{broken}")?;
@@ -30,63 +24,45 @@ pub(crate) fn write_modules<W: Write>(
     }
 }
 
-fn write_list<W: Write>(heap: Global, bundle: &Bundle<'_>, out: &mut W) -> Result<(), Failure> {
-    let mut seen = BTreeSet::new(heap);
-    let mut tally = Tally {
-        modules: 0,
-        again: 0,
-    };
-    for module in bundle.modules() {
-        let path = text_of(module.path);
-        let is_first = seen.insert(String::from_str(heap, path)?)?;
-        write_module(path, module.text, is_first, out)?;
-        tally.modules = tally.modules.saturating_add(1);
-        if !is_first {
-            tally.again = tally.again.saturating_add(1);
-        }
+fn write_list<W: Write>(heap: Global, bundle: &Bundle<'_>, out: &mut W) -> io::Result<()> {
+    let modules: Vec<BundleModule<'_>> = bundle.modules().collect(heap)?;
+    let mut paths = BTreeSet::new(heap);
+    for module in &modules {
+        let is_first = paths.insert(module.path)?;
+        write_module(module, is_first, out)?;
     }
-    write_tally(tally, out)
+    let count = Counted(modules.len(), "module");
+    match modules.len() - paths.len() {
+        0 => writeln!(out, "{count}"),
+        again => writeln!(out, "{count}, {again} of them again"),
+    }
 }
 
 fn write_module<W: Write>(
-    path: &str,
-    text: &[u8],
+    module: &BundleModule<'_>,
     is_first: bool,
     out: &mut W,
-) -> Result<(), Failure> {
-    let lines = count_lines(text);
-    let bytes = text.len();
-    let line_word = if lines == 1 { "line" } else { "lines" };
-    let byte_word = if bytes == 1 { "byte" } else { "bytes" };
+) -> io::Result<()> {
+    let path = module.path.as_bstr();
+    // A line is what a 0x0A ends.
+    let lines = Counted(module.text.iter().filter(|b| **b == b'\n').count(), "line");
+    let bytes = Counted(module.text.len(), "byte");
     let mark = if is_first {
         ""
     } else {
         "\tagain: the first at this path counts"
     };
-    writeln!(
-        out,
-        "{path}\t{lines} {line_word}\t{bytes} {byte_word}{mark}"
-    )?;
-    Ok(())
+    writeln!(out, "{path}\t{lines}\t{bytes}{mark}")
 }
 
-fn write_tally<W: Write>(tally: Tally, out: &mut W) -> Result<(), Failure> {
-    let Tally { modules, again } = tally;
-    match (modules, again) {
-        (1, _) => writeln!(out, "1 module")?,
-        (_, 0) => writeln!(out, "{modules} modules")?,
-        _ => writeln!(out, "{modules} modules, {again} of them again")?,
-    }
-    Ok(())
-}
+/// So many things of a kind, in words.
+#[derive(Clone, Copy)]
+struct Counted(usize, &'static str);
 
-/// A line is what a 0x0A ends.
-fn count_lines(text: &[u8]) -> usize {
-    let mut lines: usize = 0;
-    for b in text {
-        if *b == b'\n' {
-            lines = lines.saturating_add(1);
-        }
+impl fmt::Display for Counted {
+    fn fmt<W: fmt::Write>(&self, f: &mut fmt::Formatter<W>) -> fmt::Result {
+        let Counted(count, noun) = *self;
+        let ending = if count == 1 { "" } else { "s" };
+        write!(f, "{count} {noun}{ending}")
     }
-    lines
 }

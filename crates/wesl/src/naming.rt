@@ -6,8 +6,8 @@ ghost use Rattle.wesl_path.specs.Texts.{path_value, name_text};
 use crate::reason;
 use crate::reason::Reason;
 use crate::shown::Shown;
+use bstr::{BStr, ByteSlice};
 use std::fmt;
-use std::str::from_utf8;
 use wesl_mangle::{MangledName, Mangler};
 use wesl_path::{ModulePath, PathFault, PlainName};
 
@@ -18,32 +18,31 @@ pub struct Declaration {
     item: PlainName,
 }
 
-/// Why a line names no declaration.
-#[derive(Clone, Copy)]
-pub enum Refused {
-    NoTab,
-    Path(PathFault),
-    Item(PathFault),
-}
-
 impl Declaration {
     /// Reads `PATH tab NAME`.
-    pub(crate) fn read(line: &[u8]) -> Result<Declaration, Refused> {
-        let Some((path, item)) = cut(line, b'\t') else {
-            return Err(Refused::NoTab);
-        };
+    pub(crate) fn read(line: &[u8]) -> Result<Declaration, Refusal<'_>> {
+        let (path, item) = line.split_once_str(b"\t").ok_or(Refusal {
+            text: line,
+            refused: Refused::NoTab,
+        })?;
         Ok(Declaration {
-            path: read_path(path)?,
-            item: read_item(item)?,
+            path: ModulePath::read(path).map_err(|fault| Refusal {
+                text: path,
+                refused: Refused::Path(fault),
+            })?,
+            item: PlainName::read(item).map_err(|fault| Refusal {
+                text: item,
+                refused: Refused::Item(fault),
+            })?,
         })
     }
 
-    pub(crate) fn path(&self) -> &str {
-        text_of(self.path.as_bytes())
+    pub(crate) fn path(&self) -> BStr<'_> {
+        self.path.as_bytes().as_bstr()
     }
 
-    pub(crate) fn item(&self) -> &str {
-        text_of(self.item.as_bytes())
+    pub(crate) fn item(&self) -> BStr<'_> {
+        self.item.as_bytes().as_bstr()
     }
 
     /// The name that a Mangler gives it.
@@ -62,80 +61,44 @@ impl fmt::Display for Declaration {
     }
 }
 
-fn read_path(text: &[u8]) -> Result<ModulePath, Refused> {
-    match ModulePath::read(text) {
-        Ok(path) => Ok(path),
-        Err(fault) => Err(Refused::Path(fault)),
-    }
-}
-
-fn read_item(text: &[u8]) -> Result<PlainName, Refused> {
-    match PlainName::read(text) {
-        Ok(item) => Ok(item),
-        Err(fault) => Err(Refused::Item(fault)),
-    }
-}
-
-/// What stands before the first `mark`, and what after it.
-fn cut(bytes: &[u8], mark: u8) -> Option<(&[u8], &[u8])> {
-    for (i, b) in bytes.iter().enumerate() {
-        if *b == mark {
-            return Some((&bytes[0..i], &bytes[i + 1..]));
-        }
-    }
-    None
-}
-
-/// Paths and names are ASCII, so each is text.
-pub(crate) fn text_of(bytes: &[u8]) -> &str {
-    from_utf8(bytes).unwrap_or("")
-}
-
-/// A line that was refused, to be told in words. The library's number stands behind them; a line that the library was not
-/// asked about has none.
+/// A line that names no declaration, by the part of it that is refused.
 #[derive(Clone, Copy)]
 pub struct Refusal<'a> {
-    pub line: &'a [u8],
-    pub refused: Refused,
+    text: &'a [u8],
+    refused: Refused,
 }
 
-impl<'a> Refusal<'a> {
-    /// The part of the line that is refused.
-    fn text(&self) -> &'a [u8] {
-        let (path, item) = cut(self.line, b'\t').unwrap_or((self.line, &[]));
-        match self.refused {
-            Refused::NoTab => self.line,
-            Refused::Path(_) => path,
-            Refused::Item(_) => item,
-        }
-    }
-
-    fn reason(&self) -> Option<Reason> {
-        match self.refused {
-            Refused::NoTab => Some(Reason::NoTab),
-            Refused::Path(_) => reason::of_path(self.text()),
-            Refused::Item(_) => reason::of_name(self.text()),
-        }
-    }
+/// What is refused. The library's number stands behind the words; a line that the library was not asked about has none.
+#[derive(Clone, Copy)]
+enum Refused {
+    NoTab,
+    Path(PathFault),
+    Item(PathFault),
 }
 
 impl fmt::Display for Refusal<'_> {
     fn fmt<W: fmt::Write>(&self, f: &mut fmt::Formatter<W>) -> fmt::Result {
-        let text = self.text();
-        if !text.is_empty() {
-            let text = Shown(text);
+        if !self.text.is_empty() {
+            let text = Shown(self.text);
             write!(f, "{text}: ")?;
         }
-        match self.reason() {
-            Some(reason) => write!(f, "{reason}")?,
-            None => f.write_str("refused")?,
-        }
         match self.refused {
-            Refused::NoTab => Ok(()),
-            Refused::Path(fault) | Refused::Item(fault) => {
-                let number = fault.number();
-                write!(f, " (refusal {number})")
-            }
+            Refused::NoTab => f.write_str("no tab parts a path from a name"),
+            Refused::Path(fault) => write_reason(reason::of_path(self.text), fault, f),
+            Refused::Item(fault) => write_reason(reason::of_name(self.text), fault, f),
         }
     }
+}
+
+fn write_reason<W: fmt::Write>(
+    reason: Option<Reason>,
+    fault: PathFault,
+    f: &mut fmt::Formatter<W>,
+) -> fmt::Result {
+    match reason {
+        Some(reason) => write!(f, "{reason}")?,
+        None => f.write_str("refused")?,
+    }
+    let number = fault.number();
+    write!(f, " (refusal {number})")
 }

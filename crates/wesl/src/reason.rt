@@ -6,26 +6,28 @@ ghost use Rattle.wesl_path.specs.Path.{IsPath};
 use crate::shown::Shown;
 use std::fmt;
 use std::str::from_utf8;
-use wesl_path::{is_path, is_plain};
+use thiserror::Error;
+use wesl_path::{LONGEST_NAME, LONGEST_PATH, is_path, is_plain};
 
-const LONGEST_PATH: usize = 255;
-
-const LONGEST_WORD: usize = 64;
-
-#[derive(Clone, Copy)]
+#[derive(Clone, Copy, Debug, Error)]
 pub enum Reason {
-    NoTab,
+    #[error("the path is empty")]
     EmptyPath,
+    #[error("a path may have at most {most} bytes, and this one has {0}", most = LONGEST_PATH)]
     LongPath(usize),
+    #[error("a single colon, where only `::` parts components")]
     SingleColon,
+    #[error("{0} {1}")]
     Word(Role, WordFault),
     /// Where no better word is found.
+    #[error("this is no path")]
     NoPath,
+    #[error("this is no name")]
     NoName,
 }
 
 /// What a word was to be.
-#[derive(Clone, Copy)]
+#[derive(Clone, Copy, Debug)]
 pub enum Role {
     Path,
     Part,
@@ -33,12 +35,17 @@ pub enum Role {
     Name,
 }
 
-#[derive(Clone, Copy)]
+#[derive(Clone, Copy, Debug, Error)]
 pub enum WordFault {
+    #[error("may not be empty")]
     Empty,
+    #[error("may not begin with a digit")]
     DigitFirst,
+    #[error("may have at most {most} bytes, and this one has {0}", most = LONGEST_NAME)]
     Long(usize),
+    #[error("may not hold `{byte}`, which is no letter, digit or underscore", byte = Shown(&[*.0]))]
     Stray(u8),
+    #[error("may not be the reserved word `{0}`")]
     Reserved(&'static str),
 }
 
@@ -49,11 +56,8 @@ pub fn of_path(text: &[u8]) -> Option<Reason>
     if is_path(text) {
         return None;
     }
-    match check_path(text) {
-        Err(reason) => Some(reason),
-        // The tests look for a text that comes here.
-        Ok(()) => Some(Reason::NoPath),
-    }
+    // The tests look for a text for which no reason is found.
+    Some(check_path(text).err().unwrap_or(Reason::NoPath))
 }
 
 /// The reason why `text` is no name, or `None` where it is one.
@@ -63,10 +67,7 @@ pub fn of_name(text: &[u8]) -> Option<Reason>
     if is_plain(text) {
         return None;
     }
-    match check_word(text, Role::Name) {
-        Err(reason) => Some(reason),
-        Ok(()) => Some(Reason::NoName),
-    }
+    Some(check_word(text, Role::Name).err().unwrap_or(Reason::NoName))
 }
 
 fn check_path(bytes: &[u8]) -> Result<(), Reason> {
@@ -76,22 +77,18 @@ fn check_path(bytes: &[u8]) -> Result<(), Reason> {
     if bytes.len() > LONGEST_PATH {
         return Err(Reason::LongPath(bytes.len()));
     }
-    let mut place = Place::Origin;
-    for segment in text_of(bytes)?.split("::") {
-        place = place.pass(segment)?;
-    }
+    text_of(bytes)?
+        .split("::")
+        .try_fold(Place::Origin, Place::pass)?;
     Ok(())
 }
 
 /// A path is ASCII, so the byte at which it stops being text is one that may not stand in it.
 fn text_of(bytes: &[u8]) -> Result<&str, Reason> {
-    match from_utf8(bytes) {
-        Ok(text) => Ok(text),
-        Err(fault) => {
-            let stray = bytes[fault.valid_up_to()];
-            Err(Reason::Word(Role::Path, WordFault::Stray(stray)))
-        }
-    }
+    from_utf8(bytes).map_err(|fault| {
+        let stray = bytes[fault.valid_up_to()];
+        Reason::Word(Role::Path, WordFault::Stray(stray))
+    })
 }
 
 /// What the next segment of a path may be.
@@ -123,62 +120,35 @@ impl Place {
 }
 
 fn check_parts(package: &str) -> Result<(), Reason> {
-    for part in package.split('/') {
-        check_word(part.as_bytes(), Role::Part)?;
-    }
-    Ok(())
+    package
+        .split('/')
+        .try_for_each(|part| check_word(part.as_bytes(), Role::Part))
 }
 
 fn check_word(word: &[u8], role: Role) -> Result<(), Reason> {
-    match word_fault(word) {
-        Some(fault) => Err(Reason::Word(role, fault)),
-        None => Ok(()),
-    }
+    word_fault(word).map_or(Ok(()), |fault| Err(Reason::Word(role, fault)))
 }
 
+const RESERVED: [&str; 4] = ["package", "self", "super", "import"];
+
 fn word_fault(word: &[u8]) -> Option<WordFault> {
+    if let Some(reserved) = RESERVED.iter().find(|reserved| reserved.as_bytes() == word) {
+        return Some(WordFault::Reserved(reserved));
+    }
     match word {
         [] => Some(WordFault::Empty),
-        b"package" => Some(WordFault::Reserved("package")),
-        b"self" => Some(WordFault::Reserved("self")),
-        b"super" => Some(WordFault::Reserved("super")),
-        b"import" => Some(WordFault::Reserved("import")),
         [b'0'..=b'9', ..] => Some(WordFault::DigitFirst),
-        _ => match stray_byte(word) {
-            Some(stray) => Some(WordFault::Stray(stray)),
-            None if word.len() > LONGEST_WORD => Some(WordFault::Long(word.len())),
-            None => None,
-        },
+        _ => stray_byte(word).map(WordFault::Stray).or(
+            (word.len() > LONGEST_NAME).then_some(WordFault::Long(word.len())),
+        ),
     }
 }
 
 /// The first byte that may not stand in a word.
 fn stray_byte(word: &[u8]) -> Option<u8> {
-    for b in word {
-        if !b.is_ascii_alphanumeric() && *b != b'_' {
-            return Some(*b);
-        }
-    }
-    None
-}
-
-impl fmt::Display for Reason {
-    fn fmt<W: fmt::Write>(&self, f: &mut fmt::Formatter<W>) -> fmt::Result {
-        match *self {
-            Reason::NoTab => f.write_str("no tab parts a path from a name"),
-            Reason::EmptyPath => f.write_str("the path is empty"),
-            Reason::LongPath(len) => {
-                write!(
-                    f,
-                    "a path may have at most {LONGEST_PATH} bytes, and this one has {len}"
-                )
-            }
-            Reason::SingleColon => f.write_str("a single colon, where only `::` parts components"),
-            Reason::Word(role, fault) => write!(f, "{role} {fault}"),
-            Reason::NoPath => f.write_str("this is no path"),
-            Reason::NoName => f.write_str("this is no name"),
-        }
-    }
+    word.iter()
+        .copied()
+        .find(|b| !b.is_ascii_alphanumeric() && *b != b'_')
 }
 
 impl fmt::Display for Role {
@@ -189,28 +159,6 @@ impl fmt::Display for Role {
             Role::Component => "a component",
             Role::Name => "a name",
         })
-    }
-}
-
-impl fmt::Display for WordFault {
-    fn fmt<W: fmt::Write>(&self, f: &mut fmt::Formatter<W>) -> fmt::Result {
-        match *self {
-            WordFault::Empty => f.write_str("may not be empty"),
-            WordFault::DigitFirst => f.write_str("may not begin with a digit"),
-            WordFault::Long(len) => write!(
-                f,
-                "may have at most {LONGEST_WORD} bytes, and this one has {len}"
-            ),
-            WordFault::Stray(byte) => {
-                let bytes = [byte];
-                let shown = Shown(&bytes);
-                write!(
-                    f,
-                    "may not hold `{shown}`, which is no letter, digit or underscore"
-                )
-            }
-            WordFault::Reserved(word) => write!(f, "may not be the reserved word `{word}`"),
-        }
     }
 }
 

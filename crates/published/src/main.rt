@@ -2,8 +2,8 @@
 //! stands in the file `stdout`, taken from those examples and not from a run.
 #![tactic(auto)]
 
-use std::io;
 use std::io::{BufWriter, Write};
+use std::{fmt, io};
 use wesl_mangle::{EscapeMangler, MangledName};
 use wesl_path::{Components, ModulePath, PathFault, PlainName};
 
@@ -41,8 +41,7 @@ fn main(rt: HostRuntime) -> io::Result<()> {
     let mut out = BufWriter::new(rt.alloc(), rt.stdout())?;
     for path in PUBLISHED {
         write!(out, "{path}::item -> ")?;
-        let name = named(path);
-        write_answer(name.as_ref().map(|name| name.as_bytes()), &mut out)?;
+        write_answer(named(path), &mut out)?;
     }
     write_results(&APPENDED, "+", appended, &mut out)?;
     write_results(&APPENDED, "push", pushed, &mut out)?;
@@ -83,18 +82,17 @@ fn write_results<F: Fn(&str, &str) -> Result<ModulePath, PathFault>, W: Write>(
 {
     for (path, text) in pairs {
         write!(out, "{path} {how} {text} = ")?;
-        let result = put(path, text);
-        write_answer(result.as_ref().map(|path| path.as_bytes()), out)?;
+        write_answer(put(path, text), out)?;
     }
     Ok(())
 }
 
-fn write_answer<W: Write>(answer: Result<&[u8], &PathFault>, out: &mut W) -> io::Result<()> {
+fn write_answer<T: fmt::Display + Drop, W: Write>(
+    answer: Result<T, PathFault>,
+    out: &mut W,
+) -> io::Result<()> {
     match answer {
-        Ok(text) => {
-            out.write_all(text)?;
-            writeln!(out)
-        }
+        Ok(text) => writeln!(out, "{text}"),
         Err(fault) => {
             let number = fault.number();
             writeln!(out, "refused {number}")

@@ -45,7 +45,7 @@ fn answer_path<W: Write>(text: &[u8], out: &mut W) -> io::Result<()> {
 
 fn answer_join<W: Write>(base: &[u8], suffix: &[u8], out: &mut W) -> io::Result<()> {
     match joined(base, suffix) {
-        Ok(path) => writeln!(out, "join\tok\t{}", path.as_bytes().as_bstr()),
+        Ok(path) => writeln!(out, "join\tok\t{path}"),
         Err(PathFault::Long) => writeln!(out, "join\tlong"),
         Err(fault) => answer_refused("join", fault.number(), out),
     }
@@ -62,8 +62,6 @@ fn answer_mangle<W: Write>(path: &[u8], item: &[u8], out: &mut W) -> io::Result<
         Ok((path, item)) => {
             let escaped = MangledName::of(&EscapeMangler {}, &path, &item);
             let lengths = MangledName::of(&LengthMangler {}, &path, &item);
-            let escaped = escaped.as_bytes().as_bstr();
-            let lengths = lengths.as_bytes().as_bstr();
             writeln!(out, "mangle\tok\t{escaped}\t{lengths}")
         }
         Err(fault) => answer_refused("mangle", fault.number(), out),

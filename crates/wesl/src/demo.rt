@@ -1,7 +1,6 @@
 //! `wesl demo`: names the declarations of a small package and looks for two of one name.
 use crate::failure::Failure;
 use crate::naming::Declaration;
-use bstr::ByteSlice;
 use std::alloc::{AllocError, Global};
 use std::io;
 use std::io::Write;
@@ -32,13 +31,11 @@ struct Row {
 impl Row {
     fn of(heap: Global, declaration: &Declaration) -> Result<Row, AllocError> {
         let words = declaration.to_string(heap)?;
-        let escaped = declaration.named(&EscapeMangler {});
-        let lengths = declaration.named(&LengthMangler {});
         Ok(Row {
             joined: joined(heap, words.as_str())?,
             declaration: words,
-            escaped: escaped.as_bytes().as_bstr().to_string(heap)?,
-            lengths: lengths.as_bytes().as_bstr().to_string(heap)?,
+            escaped: declaration.named(&EscapeMangler {}).to_string(heap)?,
+            lengths: declaration.named(&LengthMangler {}).to_string(heap)?,
         })
     }
 }

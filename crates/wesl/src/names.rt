@@ -1,7 +1,6 @@
 //! `wesl names`: names the declarations of a list.
 use crate::failure::Failure;
 use crate::naming::Declaration;
-use bstr::ByteSlice;
 use std::io;
 use std::io::Write;
 use wesl_mangle::{EscapeMangler, LengthMangler};
@@ -33,18 +32,16 @@ pub(crate) fn write_names<W: Write>(list: &[u8], out: &mut W) -> Result<(), Fail
 }
 
 fn write_named<W: Write>(declaration: &Declaration, out: &mut W) -> io::Result<()> {
-    let path = declaration.path();
-    let item = declaration.item();
+    let Declaration { path, item } = declaration;
     let escaped = declaration.named(&EscapeMangler {});
     let lengths = declaration.named(&LengthMangler {});
-    let escaped = escaped.as_bytes().as_bstr();
-    let lengths = lengths.as_bytes().as_bstr();
     writeln!(out, "{path}\t{item}\t{escaped}\t{lengths}")
 }
 
 #[cfg(test)]
 mod tests {
     use super::*;
+    use bstr::ByteSlice;
     use std::test::Fail;
 
     const LIST: &[u8] = b"package::cal\tfactor\nsensors/filters\tmy_max\n";

@@ -6,7 +6,7 @@ ghost use Rattle.wesl_path.specs.Texts.{path_value, name_text};
 use crate::reason;
 use crate::reason::Reason;
 use crate::shown::Shown;
-use bstr::{BStr, ByteSlice};
+use bstr::ByteSlice;
 use std::fmt;
 use wesl_mangle::{MangledName, Mangler};
 use wesl_path::{ModulePath, PathFault, PlainName};
@@ -14,8 +14,8 @@ use wesl_path::{ModulePath, PathFault, PlainName};
 /// The module that it stands in, and its own name.
 #[derive(Clone, Copy)]
 pub struct Declaration {
-    path: ModulePath,
-    item: PlainName,
+    pub path: ModulePath,
+    pub item: PlainName,
 }
 
 impl Declaration {
@@ -37,14 +37,6 @@ impl Declaration {
         })
     }
 
-    pub(crate) fn path(&self) -> BStr<'_> {
-        self.path.as_bytes().as_bstr()
-    }
-
-    pub(crate) fn item(&self) -> BStr<'_> {
-        self.item.as_bytes().as_bstr()
-    }
-
     /// The name that a Mangler gives it.
     pub fn named<M: Mangler>(&self, mangler: &M) -> MangledName
         ensures { mangled_text result ≡ M.meaning mangler.now (path_value self.now.path) (name_text self.now.item) }
@@ -55,8 +47,7 @@ impl Declaration {
 
 impl fmt::Display for Declaration {
     fn fmt<W: fmt::Write>(&self, f: &mut fmt::Formatter<W>) -> fmt::Result {
-        let path = self.path();
-        let item = self.item();
+        let Declaration { path, item } = self;
         write!(f, "{path} {item}")
     }
 }

@@ -28,8 +28,12 @@ fn write_list<W: Write>(heap: Global, bundle: &Bundle<'_>, out: &mut W) -> io::R
     let modules: Vec<BundleModule<'_>> = bundle.modules().collect(heap)?;
     let mut paths = BTreeSet::new(heap);
     for module in &modules {
-        let is_first = paths.insert(module.path)?;
-        write_module(module, is_first, out)?;
+        let mark = if paths.insert(module.path)? {
+            ""
+        } else {
+            "\tagain: the first at this path counts"
+        };
+        write_module(module, mark, out)?;
     }
     let count = Counted(modules.len(), "module");
     match modules.len() - paths.len() {
@@ -38,20 +42,11 @@ fn write_list<W: Write>(heap: Global, bundle: &Bundle<'_>, out: &mut W) -> io::R
     }
 }
 
-fn write_module<W: Write>(
-    module: &BundleModule<'_>,
-    is_first: bool,
-    out: &mut W,
-) -> io::Result<()> {
+fn write_module<W: Write>(module: &BundleModule<'_>, mark: &str, out: &mut W) -> io::Result<()> {
     let path = module.path.as_bstr();
     // A line is what a 0x0A ends.
     let lines = Counted(module.text.iter().filter(|b| **b == b'\n').count(), "line");
     let bytes = Counted(module.text.len(), "byte");
-    let mark = if is_first {
-        ""
-    } else {
-        "\tagain: the first at this path counts"
-    };
     writeln!(out, "{path}\t{lines}\t{bytes}{mark}")
 }
 

@@ -8,7 +8,8 @@ use crate::keyed::{Comparison, Keyed};
 
 /// Records in the order in which they were added, in cells that the caller lends. Cells past the count are free, and
 /// never read.
-// It has no model, since with one its caller does not learn what the cells hold once the table is gone.
+// Lent cells and a count, as nothing is allocated; and no model, since with one its caller does not learn what the cells hold
+// once the table is gone.
 #[derive(Drop)]
 pub struct Table<'a, T> {
     cells: &'a mut [T],

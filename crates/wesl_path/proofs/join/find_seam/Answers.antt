@@ -1,7 +1,6 @@
-use Rattle.std.proofs.Common.{◌≡◌, ◌++◌, take, codes, sym, subst}
+use Rattle.std.proofs.Common.{◌≡◌, ◌++◌, take, codes, subst}
 use Rattle.std.proofs.lemmas.List.{take_rest}
 use Rattle.wesl_path.specs.Path.{path_of, shown_origin, led, without_last_names}
-use Rattle.wesl_path.specs.Heads.{HeadOf}
 use Rattle.wesl_path.specs.Texts.{path_text}
 use Rattle.wesl_path.proofs.JoinFacts.{seam_absolute, seam_relative, seam_package}
 use Rattle.wesl_path.proofs.join.find_seam.Goals as goal
@@ -17,10 +16,6 @@ returns-in-Absolute c =
     let rest = take_rest c.as_bytes-back.result.now tail.end in
     let e = seam_absolute (path_text p) (path_text q) head tail q.valid c.head-head.ensures c.head-tail.ensures c.in-Absolute.is in
     cc
-
-pub without_last-requires : goal.without_last-requires
-without_last-requires c =
-    record { valid = c.as_bytes-front.ensures.valid; own = subst (λ x. HeadOf x c.head-head.result) (sym c.as_bytes-front.ensures.value) c.head-head.ensures }
 
 pub returns-in-Relative : goal.returns-in-Relative
 returns-in-Relative c =

@@ -1,6 +1,7 @@
 -- Words: where they end, and that there is one way to read words that follow one another.
-use Rattle.std.proofs.Common.{◌≡◌, ℕ, ◌+◌, ◌-◌, ◌<◌, ◌≤◌, true, false, leb, ◌&&◌, List, [], ◌∷◌, ◌++◌, length, take, drop, codes, sym, refl, ap, ◌∙◌, subst, inl, inr, one-add, arith, lit<}
+use Rattle.std.proofs.Common.{Bool, MatchOption, ◌≡◌, ℕ, ◌+◌, ◌-◌, ◌<◌, ◌≤◌, true, false, leb, ◌&&◌, List, [], ◌∷◌, ◌++◌, length, take, drop, codes, sym, refl, ap, ◌∙◌, subst, inl, inr, one-add, arith, lit<}
 use Rattle.std.specs.List.{AllByRecursion, list_all, position, position_or_len}
+use Rattle.std.specs.Bool.{then_some}
 use Rattle.std.specs.Option.{unwrap_or}
 use Rattle.std.specs.Str.{bytes_eq}
 use Rattle.std.proofs.lemmas.List.{append_assoc, append-nil, length_push, append_cancel_left, take-append-drop, take_at, take_rest, drop_at, drop-drop, length-drop, length-append}
@@ -190,6 +191,12 @@ led_word_other s text at rest n e l f w more hw hb k =
     let same : rest ≡ w ++ more = append_cancel_left (lead_of s) rest (w ++ more) (sym e ∙ k) in
     let word : first_word rest ≡ w = ap first_word same ∙ first_is w more (fits_inner s w hw) hb in
     both_ways (fitting s w) (ap (fitting s) (sym (first_taken rest n l ∙ word)) ∙ f) hw
+
+-- the word after a lead, by the test whether it is of the kind
+pub led_word_told : (s : Step) (text : List ℕ) (at : ℕ) (rest : List ℕ) (n : ℕ) (b : Bool) → at ≤ length text → drop at text ≡ lead_of s ++ rest → n ≡ 0 + length (first_word rest)
+    → b ≡ fitting s (take n rest) → MatchOption (then_some b ((length text - length rest) + n)) (NotLed s (drop at text)) (λ end. LedWord s text at end)
+led_word_told s text at rest n true h e l f = led_word_at s text at rest n h e l (sym f)
+led_word_told s text at rest n false h e l f = led_word_other s text at rest n e l (sym f)
 
 led_push : (s : Step) (ws : List (List ℕ)) (w rest : List ℕ) → led (lead_of s) ws ++ (lead_of s ++ (w ++ rest)) ≡ led (lead_of s) (ws ++ w ∷ []) ++ rest
 led_push s [] w rest = simp (append_assoc, append-nil)

@@ -46,7 +46,8 @@ pub(crate) struct Passed {
     pub end: usize,
 }
 
-fn is_parting(b: u8) -> bool
+/// Whether a byte parts words.
+pub fn is_parting(b: u8) -> bool
     ensures { result ≡ parts_words b }
 {
     b == b':' || b == b'/'
@@ -60,6 +61,7 @@ fn first_parting(text: &[u8]) -> Option<usize>
 }
 
 /// Where the word that begins at `at` ends.
+// A place in the whole text, as in `Passed`; so below.
 pub fn word_end(text: &[u8], at: usize) -> usize
     ensures value { result ≡ at + length (first_word (drop at text.now)) }
     ensures bound { at ≤ length text.now → result ≤ length text.now }
@@ -77,11 +79,8 @@ fn led_word(text: &[u8], at: usize, step: Step) -> Option<usize>
 {
     let rest = text[at..].strip_prefix(step.lead())?;
     let end = word_end(rest, 0);
-    if step.fits(&rest[..end]) {
-        Some(text.len() - rest.len() + end)
-    } else {
-        None
-    }
+    step.fits(&rest[..end])
+        .then_some(text.len() - rest.len() + end)
 }
 
 /// Passes the words of a kind that follow one another from `at` on, or the first `most` of them.

@@ -1,11 +1,10 @@
 //! Reading and printing components.
-ghost use Rattle.std.specs.Prelude.{◌≡◌, ◌≤◌, true, length, Decides, MatchOption, MatchResult, ◌==◌};
+ghost use Rattle.std.specs.Prelude.{◌≡◌, ◌≤◌, true, length, Decides, MatchOption, MatchResult, ◌==◌, Some};
 ghost use Rattle.wesl_path.specs.Components.{AreComponents, are_components_text};
 ghost use Rattle.wesl_path.specs.Texts.{components_text};
 
 use crate::components::Components;
 use crate::fault::PathFault;
-use crate::inline::InlineBytes;
 use crate::limits::LONGEST_PATH;
 use crate::name::test::is_plain;
 use crate::words::{Step, pass, word_end};
@@ -24,6 +23,7 @@ fn names_end(text: &[u8]) -> Option<usize>
 }
 
 /// Whether `text` is plain names parted by `::`.
+// And `is_path` beside it: the two are one line, and differ in what is read at the front and in what that proves.
 pub fn are_components(text: &[u8]) -> bool
     ensures { Decides result (AreComponents text.now) }
 {
@@ -40,9 +40,9 @@ impl Components {
         if !are_components(text) {
             return Err(PathFault::Malformed);
         }
-        let mut kept = InlineBytes::new();
-        kept.push(text)?;
-        Ok(Components { text: kept })
+        Ok(Components {
+            text: text.try_into()?,
+        })
     }
 
     /// The bytes that the components are written as.
@@ -63,6 +63,8 @@ impl Components {
 }
 
 impl fmt::Display for Components {
+    ghost output = { λ x. Some (components_text x) };
+
     fn fmt<W: fmt::Write>(&self, f: &mut fmt::Formatter<W>) -> fmt::Result {
         f.pad(self.as_str())
     }

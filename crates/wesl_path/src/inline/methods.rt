@@ -1,5 +1,5 @@
 //! Reading bytes held in place, and adding to them.
-ghost use Rattle.std.specs.Prelude.{◌≡◌, []};
+ghost use Rattle.std.specs.Prelude.{◌≡◌, ◌<◌, [], length, MatchResult};
 ghost use Rattle.wesl_path.specs.Inline.{held, Extended};
 
 use crate::cells::put;
@@ -33,5 +33,18 @@ impl<const N: usize> InlineBytes<N> {
         put(&mut self.cells, self.len, bytes);
         self.len += bytes.len();
         Ok(())
+    }
+}
+
+/// A copy of bytes, where there is room for them.
+impl<const N: usize> TryFrom<&[u8]> for InlineBytes<N> {
+    type Error = NoRoom;
+
+    ghost try_from_gives = { λ bytes r. MatchResult r (λ x. held x ≡ bytes.now) (λ _. N < length bytes.now) };
+
+    fn try_from(bytes: &[u8]) -> Result<InlineBytes<N>, NoRoom> {
+        let mut held = InlineBytes::new();
+        held.push(bytes)?;
+        Ok(held)
     }
 }

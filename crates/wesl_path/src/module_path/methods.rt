@@ -1,5 +1,5 @@
 //! Reading, printing and comparing module paths.
-ghost use Rattle.std.specs.Prelude.{◌≡◌, ◌<◌, ◌≤◌, true, ◌++◌, length, Decides, MatchOption, MatchResult, ◌==◌};
+ghost use Rattle.std.specs.Prelude.{◌≡◌, ◌<◌, ◌≤◌, true, ◌++◌, length, Decides, MatchOption, MatchResult, ◌==◌, Some};
 ghost use Rattle.wesl_path.specs.Path.{IsPath, is_path_text};
 ghost use Rattle.wesl_path.specs.Heads.{HeadOf, kind_of};
 ghost use Rattle.wesl_path.specs.Texts.{path_text, path_value, SameAnswer, Equivalence};
@@ -94,7 +94,7 @@ impl ModulePath {
     }
 }
 
-// By hand: a derive would compare the bytes past the length too.
+// By hand, for its clauses: what `==` tells of two paths stands here, and bytes past the length do not count.
 impl PartialEq for ModulePath {
     ghost eq = { path_eq };
 
@@ -109,6 +109,8 @@ impl PartialEq for ModulePath {
 }
 
 impl fmt::Display for ModulePath {
+    ghost output = { λ x. Some (path_text x) };
+
     fn fmt<W: fmt::Write>(&self, f: &mut fmt::Formatter<W>) -> fmt::Result {
         f.pad(self.as_str())
     }

@@ -1,12 +1,11 @@
 //! Whether bytes are a plain name.
-ghost use Rattle.std.specs.Prelude.{◌≡◌, true, false, MatchResult};
+ghost use Rattle.std.specs.Prelude.{◌≡◌, true, false, MatchResult, Some};
 ghost use Rattle.std.specs.List.{list_all};
 ghost use Rattle.std.specs.Str.{bytes_eq};
 ghost use Rattle.wesl_path.specs.Texts.{name_text};
 ghost use Rattle.wesl_path.specs.Name.{word_byte, starts_well_text, reserved, plain};
 
 use crate::fault::PathFault;
-use crate::inline::InlineBytes;
 use crate::limits::LONGEST_NAME;
 use crate::name::PlainName;
 use std::fmt;
@@ -26,6 +25,7 @@ pub fn same_bytes(a: &[u8], b: &[u8]) -> bool
     a == b
 }
 
+// Not by `matches!`, which was tried: the check then asks of each byte of each word alone, in 28 goals.
 #[tactic(auto, unfolding(crate::specs::Name::reserved))]
 fn is_reserved(bytes: &[u8]) -> bool
     ensures { result ≡ reserved bytes.now }
@@ -70,9 +70,9 @@ impl PlainName {
         if !is_plain(bytes) {
             return Err(PathFault::Malformed);
         }
-        let mut text = InlineBytes::new();
-        text.push(bytes)?;
-        Ok(PlainName { text })
+        Ok(PlainName {
+            text: bytes.try_into()?,
+        })
     }
 
     /// The name's bytes.
@@ -93,6 +93,8 @@ impl PlainName {
 }
 
 impl fmt::Display for PlainName {
+    ghost output = { λ x. Some (name_text x) };
+
     fn fmt<W: fmt::Write>(&self, f: &mut fmt::Formatter<W>) -> fmt::Result {
         f.pad(self.as_str())
     }

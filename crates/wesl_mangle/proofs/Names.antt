@@ -2,7 +2,7 @@
 use Rattle.wesl_path.specs.Name.{word_bytes, starts_well_text}
 use Rattle.wesl_path.proofs.AsciiFacts.{word_bytes_utf8}
 use Rattle.wesl_mangle.specs.Mangle.{Item, Identifier, is_word}
-use Rattle.std.proofs.Common.{◌≡◌, true, ℕ, ◌≤◌, List, length, take, drop, IfOk, Ok, Err, Result, IsUtf8, sym, ap, ◌∙◌, arith}
+use Rattle.std.proofs.Common.{◌≡◌, true, ℕ, ◌≤◌, List, length, take, drop, IfOk, Ok, Err, Result, IsOk, IsUtf8, refl, sym, ap, ◌∙◌, arith}
 use Rattle.std.proofs.lemmas.List.{take_at}
 use Rattle.std.proofs.lemmas.Bool.{and_from, and_parts}
 use Rattle.wesl_mangle.specs.Writes.{Answered}
@@ -23,9 +23,10 @@ pub answered_back : (what was new : List ℕ) (r : Result ℕ MangleFault) (read
 answered_back what was new (Ok n) read x h e = ap read (delivered what was new n h) ∙ e
 answered_back what was new (Err NoRoom) read x h e = tt
 
--- a refusal says that there was no room
-pub room_enough : (what was new : List ℕ) (x : MangleFault) → Answered what was new (Err x) → length what ≤ 1024 → length was ≡ 1024 → ⊥
-room_enough what was new NoRoom h l m = let k = h.0 in omega arith
+-- where there is room, a name is handed over
+pub room_enough : (what was new : List ℕ) (r : Result ℕ MangleFault) → Answered what was new r → length what ≤ 1024 → length was ≡ 1024 → IsOk r
+room_enough what was new (Ok n) h l m = refl
+room_enough what was new (Err NoRoom) h l m = absurd (let k = h.0 in omega arith)
 
 -- a name is text
 pub word_utf8 : (bs : List ℕ) → is_word bs ≡ true → IsUtf8 bs

@@ -71,6 +71,7 @@ impl Wording for EscapeMangler {
     }
 }
 
+// One impl over every `Wording` would close the trait to others, and hide the way back, which `back` names.
 impl Mangler for EscapeMangler {
     ghost meaning = { λ _ p i. escape p i };
 

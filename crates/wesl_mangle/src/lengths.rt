@@ -67,6 +67,7 @@ impl Wording for LengthMangler {
     }
 }
 
+// One impl over every `Wording` would close the trait to others, and hide the way back, which `back` names.
 impl Mangler for LengthMangler {
     ghost meaning = { λ _ p i. by_lengths p i };
 

@@ -20,6 +20,7 @@ pub struct MangledName {
 }
 
 /// Writes what a Mangler calls an item, and answers its length: there is always room for it.
+// Into a lent buffer, as any Mangler writes.
 fn mangle_into<M: Mangler>(
     mangler: &M,
     path: &ModulePath,
@@ -30,10 +31,7 @@ fn mangle_into<M: Mangler>(
     ensures name { take result out.new ≡ M.meaning mangler.now (path_value path.now) (name_text item.now) }
     ensures word { is_word (take result out.new) ≡ true }
 {
-    let Ok(len) = mangler.mangle(path, item, out) else {
-        unreachable()
-    };
-    len
+    mangler.mangle(path, item, out).unwrap()
 }
 
 impl MangledName {
@@ -45,11 +43,9 @@ impl MangledName {
     {
         let mut out = [0u8; LONGEST_MANGLED];
         let len = mangle_into(mangler, path, item, &mut out);
-        let mut text = InlineBytes::new();
-        let Ok(()) = text.push(&out[..len]) else {
-            unreachable()
-        };
-        MangledName { text }
+        MangledName {
+            text: InlineBytes::try_from(&out[..len]).unwrap(),
+        }
     }
 
     /// The name's bytes.
@@ -70,6 +66,11 @@ impl MangledName {
 }
 
 impl fmt::Display for MangledName {
+    ghost use Rattle.std.specs.Prelude.{Some};
+    ghost use Rattle.wesl_mangle.specs.Names.{mangled_text};
+
+    ghost output = { λ n. Some (mangled_text n) };
+
     fn fmt<W: fmt::Write>(&self, f: &mut fmt::Formatter<W>) -> fmt::Result {
         f.pad(self.as_str())
     }

@@ -9,7 +9,7 @@ ghost use Rattle.wesl_mangle.specs.Writes.{HasRoom, Answered};
 
 use crate::fault::MangleFault;
 use crate::write::NameText;
-use wesl_path::words::word_end;
+use wesl_path::words::{is_parting, word_end};
 use wesl_path::{ModulePath, PlainName};
 
 /// A name is what leads it, the words of the path, each with what ends it, and the item's name, written as a word.
@@ -64,7 +64,7 @@ pub(crate) trait Wording {
 fn word_start(text: &[u8]) -> Option<usize>
     ensures { result ≡ position (λ b. not (parts_words b)) text.now }
 {
-    text.iter().position(|b| *b != b':' && *b != b'/')
+    text.iter().position(|b| !is_parting(*b))
 }
 
 /// The first word of a text, and what follows it.

@@ -38,9 +38,7 @@ impl NameText {
         requires { HasRoom self.old bytes.now }
         ensures { self.new ≡ self.old ++ bytes.now }
     {
-        let Ok(()) = self.bytes.push(bytes) else {
-            unreachable()
-        };
+        self.bytes.push(bytes).unwrap();
     }
 
     /// Writes a number in decimal.

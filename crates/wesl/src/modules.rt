@@ -25,18 +25,18 @@ pub(crate) fn write_modules<W: Write>(
 }
 
 fn write_list<W: Write>(heap: Global, bundle: &Bundle<'_>, out: &mut W) -> io::Result<()> {
-    let modules: Vec<BundleModule<'_>> = bundle.modules().collect(heap)?;
     let mut paths = BTreeSet::new(heap);
-    for module in &modules {
+    for module in bundle.modules() {
         let mark = if paths.insert(module.path)? {
             ""
         } else {
             "\tagain: the first at this path counts"
         };
-        write_module(module, mark, out)?;
+        write_module(&module, mark, out)?;
     }
-    let count = Counted(modules.len(), "module");
-    match modules.len() - paths.len() {
+    let all = bundle.modules().count();
+    let count = Counted(all, "module");
+    match all.saturating_sub(paths.len()) {
         0 => writeln!(out, "{count}"),
         again => writeln!(out, "{count}, {again} of them again"),
     }

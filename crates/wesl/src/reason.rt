@@ -126,22 +126,27 @@ fn check_parts(package: &str) -> Result<(), Reason> {
 }
 
 fn check_word(word: &[u8], role: Role) -> Result<(), Reason> {
-    word_fault(word).map_or(Ok(()), |fault| Err(Reason::Word(role, fault)))
+    check_bytes(word).map_err(|fault| Reason::Word(role, fault))
 }
 
 const RESERVED: [&str; 4] = ["package", "self", "super", "import"];
 
-fn word_fault(word: &[u8]) -> Option<WordFault> {
+fn check_bytes(word: &[u8]) -> Result<(), WordFault> {
     if let Some(reserved) = RESERVED.iter().find(|reserved| reserved.as_bytes() == word) {
-        return Some(WordFault::Reserved(reserved));
+        return Err(WordFault::Reserved(reserved));
     }
     match word {
-        [] => Some(WordFault::Empty),
-        [b'0'..=b'9', ..] => Some(WordFault::DigitFirst),
-        _ => stray_byte(word).map(WordFault::Stray).or(
-            (word.len() > LONGEST_NAME).then_some(WordFault::Long(word.len())),
-        ),
+        [] => return Err(WordFault::Empty),
+        [b'0'..=b'9', ..] => return Err(WordFault::DigitFirst),
+        _ => {}
     }
+    if let Some(stray) = stray_byte(word) {
+        return Err(WordFault::Stray(stray));
+    }
+    if word.len() > LONGEST_NAME {
+        return Err(WordFault::Long(word.len()));
+    }
+    Ok(())
 }
 
 /// The first byte that may not stand in a word.

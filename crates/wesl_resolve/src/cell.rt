@@ -5,13 +5,13 @@ ghost use Rattle.wesl_table.specs.Places.{part};
 ghost use Rattle.wesl_resolve.specs.Cells.{Missed};
 
 use crate::fault::ResolveFault;
-use wesl_path::ModulePath;
 use wesl_path::cells::put;
+use wesl_path::{LONGEST_PATH, ModulePath};
 use wesl_table::Place;
 
 const CELL_SIZE: usize = 2558;
 
-const PATH_START: usize = 255;
+const PATH_START: usize = LONGEST_PATH;
 
 /// The cell that the bytes of a fault lie in, lent to each call that may refuse: the path of a module in the first 255,
 /// a path that was not found in the next 255, and two names in 1,024 each. The library allocates nothing, and callers

@@ -19,11 +19,11 @@ HEAD = re.compile(r"^\s*(?:pub(?:\([a-z]+\))? )?(?:(?:const )?fn|struct|enum|tra
 FORMS = {
     # an Option or a Result turned by hand, a flag beside a value, a number for a refusal
     "1": r"Some\(\w+\) => (?:Ok|Some)\(|None => (?:return )?(?:Err|None)\b|Err\(\w+\) => (?:return )?(?:Err|Some|None)\b"
-    r"|Ok\(\w+\) => (?:Ok|Some)\(|else \{\s+return None;|=> unreachable\(|\bslash: bool,|first: bool|-> Result<bool|fn number\(",
+    r"|Ok\(\w+\) => (?:Ok|Some)\(|else \{\s+(?:return )?None;?\s|unreachable\(\)|map_or\(Ok|\bslash: bool,|first: bool|-> Result<bool|fn number\(",
     # loops that count, test or search by hand
     "3": r"\bwhile |\.enumerate\(\) \{|for \w+ in \w+\.\.|for b in (?:bytes|word|text) \{",
     # equality, conversion and printing by hand
-    "4": r"impl PartialEq |impl From|impl<T: Drop> From|impl fmt::Display for Failure|from_utf8\(|b'0' \+|Err\(\w+\) => (?:return )?Err\(\w+::\w+\(",
+    "4": r"impl PartialEq |impl From|impl<T: Drop> From|impl fmt::Display for Failure|from_utf8\(|b'0' \+|same_bytes\([^)]*\)\s+\|\| same_bytes|Err\(\w+\) => (?:return )?Err\(\w+::\w+\(",
     # buffers with a length, indices into a text
     "6": r"\[u8; \w+\],|\[0u8; \w+\]|\b(?:at|from|start|len|count|end): usize",
     # a switch on the step to run

@@ -4,6 +4,7 @@ use Rattle.std.specs.List.{AllByRecursion}
 use Rattle.std.proofs.ByRecursion.{All-append, All-take}
 use Rattle.std.proofs.lemmas.List.{append_assoc, append-nil, length-append, length-drop, take-append-drop, take_at}
 use Rattle.std.proofs.lemmas.Bool.{cases_lt}
+use Rattle.std.proofs.lemmas.Grind.{flat_map-append}
 use Rattle.wesl_path.specs.Name.{Plain}
 use Rattle.wesl_path.specs.Path.{Origin, absolute, relative, packaged, Path, led, shown_origin, shown, PlainOrigin, without_last_names, within, joined_from, join_path, extended, path_of, is_path_text}
 use Rattle.wesl_path.specs.Words.{Passing}
@@ -47,10 +48,6 @@ pub made_given : (p : Path) (bs : List ℕ) (r : Result ModulePath PathFault) �
 made_given p bs (Ok r) m h = made_value p bs r m h
 made_given p bs (Err e) m h = subst (λ e. Given p (Err e)) (sym h.0) (made_long p bs m h.1)
 
-led_append : (lead : List ℕ) (xs ys : List (List ℕ)) → led lead (xs ++ ys) ≡ led lead xs ++ led lead ys
-led_append lead [] ys = refl
-led_append lead (x ∷ xs) ys = ap (λ z. (lead ++ x) ++ z) (led_append lead xs ys) ∙ sym (append_assoc (lead ++ x) (led lead xs) (led lead ys))
-
 -- components at the end of a path's text
 extended_made : (base : List ℕ) (cs : List (List ℕ)) → is_path_text base ≡ true → AllByRecursion Plain cs → Made (extended (path_of base) cs) (base ++ led (codes "::") cs)
 unfolding shown
@@ -63,7 +60,7 @@ extended_made base cs valid h =
       text =
           ap (λ x. x ++ led (codes "::") cs) (sym t.1)
           ∙ (append_assoc (shown_origin p.origin) (led (codes "::") p.components) (led (codes "::") cs)
-          ∙ ap (λ x. shown_origin p.origin ++ x) (sym (led_append (codes "::") p.components cs)));
+          ∙ ap (λ x. shown_origin p.origin ++ x) (sym (flat_map-append (λ w. codes "::" ++ w) p.components cs)));
     }
 
 pub pushed_made : (self : ModulePath) (item : PlainName) (a b : List ℕ) → a ≡ path_text self → b ≡ name_text item
@@ -139,7 +136,7 @@ read_from_shown outer inner part more cs e (packaged part₀ more₀) f =
     let right : (part₀ ++ (led slash more₀ ++ ((slash ++ part) ++ led slash more))) ++ back ≡ flat = simp append_assoc in
     ap (λ x. x ++ (slash ++ inner)) f
     ∙ (ap (λ x. (part₀ ++ led slash more₀) ++ (slash ++ x)) e
-    ∙ (left ∙ sym (ap (λ x. (part₀ ++ x) ++ back) (led_append slash more₀ (part ∷ more)) ∙ right)))
+    ∙ (left ∙ sym (ap (λ x. (part₀ ++ x) ++ back) (flat_map-append (λ w. slash ++ w) more₀ (part ∷ more)) ∙ right)))
 
 module _ (base suffix : List ℕ) (h t : Head) (suffix-valid : is_path_text suffix ≡ true) (head : HeadOf base h) (tail : HeadOf suffix t) where
   pub seam_absolute : t.origin ≡ Absolute → take h.end base ++ drop t.end suffix ≡ shown (join_path (path_of base) (path_of suffix))
@@ -160,7 +157,7 @@ module _ (base suffix : List ℕ) (h t : Head) (suffix-valid : is_path_text suff
       ap (λ x. x ++ drop t.end suffix) f
       ∙ (append_assoc (shown_origin p.origin) (led (codes "::") kept) (drop t.end suffix)
       ∙ (ap (λ x. shown_origin p.origin ++ (led (codes "::") kept ++ x)) tail.back
-      ∙ (ap (λ x. shown_origin p.origin ++ x) (sym (led_append (codes "::") kept q.components))
+      ∙ (ap (λ x. shown_origin p.origin ++ x) (sym (flat_map-append (λ w. codes "::" ++ w) kept q.components))
       ∙ sym (ap (λ o. shown (joined_from p o q.components)) (kind_relative q.origin n (sym e ∙ tail.kind))))))
 
   pub seam_package : (n : ℕ) → t.origin ≡ Package n → read_from h.origin (take h.end base) suffix ≡ shown (join_path (path_of base) (path_of suffix))

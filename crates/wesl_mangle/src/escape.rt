@@ -44,14 +44,11 @@ impl Wording for EscapeMangler {
     ghost named = { escape_named };
 
     /// `import` and the number of the parts, before a package of several.
-    fn push_lead(name: &mut NameText, path: &ModulePath) {
+    fn push_lead<'p>(name: &mut NameText, path: &'p ModulePath) -> &'p [u8] {
         match path.origin() {
             PathOrigin::Package(parts) if parts > 1 => name.push_numbered(b"import_", parts),
             _ => {}
         }
-    }
-
-    fn words_text(path: &ModulePath) -> &[u8] {
         path.as_bytes()
     }
 

@@ -35,21 +35,23 @@ impl Wording for LengthMangler {
 
     ghost named = { lengths_named };
 
-    /// `p`, `r` and how far up, or `k` and how many parts.
-    fn push_lead(name: &mut NameText, path: &ModulePath) {
-        match path.origin() {
-            PathOrigin::Absolute => name.push(b"p"),
-            PathOrigin::Relative(up) => name.push_numbered(b"r", up),
-            PathOrigin::Package(parts) => name.push_numbered(b"k", parts),
-        }
-    }
-
-    /// A package's own name is written, and that of no other origin.
-    fn words_text(path: &ModulePath) -> &[u8] {
+    /// `p`, `r` and how far up, or `k` and how many parts. A package's own name is written too, and that of no other origin.
+    fn push_lead<'p>(name: &mut NameText, path: &'p ModulePath) -> &'p [u8] {
         let head = path.head();
+        let text = path.as_bytes();
         match head.origin {
-            PathOrigin::Package(_) => path.as_bytes(),
-            PathOrigin::Absolute | PathOrigin::Relative(_) => &path.as_bytes()[head.end..],
+            PathOrigin::Absolute => {
+                name.push(b"p");
+                &text[head.end..]
+            }
+            PathOrigin::Relative(up) => {
+                name.push_numbered(b"r", up);
+                &text[head.end..]
+            }
+            PathOrigin::Package(parts) => {
+                name.push_numbered(b"k", parts);
+                text
+            }
         }
     }
 

@@ -37,14 +37,14 @@ fn mangle_into<M: Mangler>(
 impl MangledName {
     ghost use Rattle.wesl_mangle.specs.Names.{mangled_text};
 
-    /// What a Mangler calls an item of the module at a path.
+    /// What a Mangler calls an item of the module at a path. There is always room for it.
     pub fn of<M: Mangler>(mangler: &M, path: &ModulePath, item: &PlainName) -> MangledName
         ensures { mangled_text result ≡ M.meaning mangler.now (path_value path.now) (name_text item.now) }
     {
         let mut out = [0u8; LONGEST_MANGLED];
         let len = mangle_into(mangler, path, item, &mut out);
         MangledName {
-            text: InlineBytes::try_from(&out[..len]).unwrap(),
+            text: InlineBytes::front_of(out, len),
         }
     }
 

@@ -32,14 +32,12 @@ pub(crate) trait Wording {
     /// the declaration that a name stands for
     ghost back: { List ℕ → Item };
 
-    /// Writes what leads the words.
-    fn push_lead(name: &mut NameText, path: &ModulePath)
+    /// Writes what leads the words, and answers the text whose words are written. One function, as both ask for the path's
+    /// origin, which is read from its bytes.
+    fn push_lead<'p>(name: &mut NameText, path: &'p ModulePath) -> &'p [u8]
         requires { HasRoom name.old (lead (path_value path.now).origin) }
-        ensures { name.new ≡ name.old ++ lead (path_value path.now).origin };
-
-    /// The text whose words are written.
-    fn words_text(path: &ModulePath) -> &[u8]
-        ensures { words result.now ≡ words_of (path_value path.now) };
+        ensures leads { name.new ≡ name.old ++ lead (path_value path.now).origin }
+        ensures text { words result.now ≡ words_of (path_value path.now) };
 
     /// Writes a word.
     fn push_word(name: &mut NameText, word: &[u8])
@@ -91,15 +89,15 @@ fn push_words<W: Wording>(name: &mut NameText, text: &[u8])
     }
 }
 
-/// Writes an item's name.
-fn write_name<W: Wording>(path: &ModulePath, item: &PlainName) -> NameText
-    ensures { result ≡ W.whole (path_value path.now) (name_text item.now) }
+/// Writes an item's name where nothing is written yet.
+// In place: to hand a name over by value is to copy all of its 1,024 bytes.
+fn write_name<W: Wording>(name: &mut NameText, path: &ModulePath, item: &PlainName)
+    requires { name.old ≡ [] }
+    ensures { name.new ≡ W.whole (path_value path.now) (name_text item.now) }
 {
-    let mut name = NameText::new();
-    W::push_lead(&mut name, path);
-    push_words::<W>(&mut name, W::words_text(path));
-    W::push_word(&mut name, item.as_bytes());
-    name
+    let text = W::push_lead(name, path);
+    push_words::<W>(name, text);
+    W::push_word(name, item.as_bytes());
 }
 
 /// Writes an item's name to the caller's buffer, where it fits.
@@ -111,5 +109,7 @@ pub(crate) fn give_name<W: Wording>(
     ensures answer { Answered (W.whole (path_value path.now) (name_text item.now)) out.old out.new result }
     ensures back { IfOk result (λ n. W.back (take n out.new) ≡ record { path = path_value path.now; name = name_text item.now }) }
 {
-    write_name::<W>(path, item).deliver(out)
+    let mut name = NameText::new();
+    write_name::<W>(&mut name, path, item);
+    name.deliver(out)
 }

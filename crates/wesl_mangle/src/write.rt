@@ -42,11 +42,17 @@ impl NameText {
     }
 
     /// Writes a number in decimal.
+    // Most lengths and counts are one digit, which takes no formatting.
+    #[tactic(auto, using(std::proofs::lemmas::Fmt::decimal_digit))]
     pub(crate) fn push_decimal(&mut self, n: usize)
         requires { HasRoom self.old (decimal n) }
         ensures { self.new ≡ self.old ++ decimal n }
     {
-        self.push(Buffer::new().format(n).as_bytes());
+        if n < 10 {
+            self.push(&[b'0' + n as u8]);
+        } else {
+            self.push(Buffer::new().format(n).as_bytes());
+        }
     }
 
     /// Writes a text, a number and `_`.

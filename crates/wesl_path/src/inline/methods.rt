@@ -1,5 +1,5 @@
 //! Reading bytes held in place, and adding to them.
-ghost use Rattle.std.specs.Prelude.{◌≡◌, ◌<◌, [], length, MatchResult};
+ghost use Rattle.std.specs.Prelude.{◌≡◌, ◌<◌, [], length, take, MatchResult};
 ghost use Rattle.wesl_path.specs.Inline.{held, Extended};
 
 use crate::cells::put;
@@ -13,6 +13,16 @@ impl<const N: usize> InlineBytes<N> {
         InlineBytes {
             cells: [0; N],
             len: 0,
+        }
+    }
+
+    /// The front of an array: its first `len` bytes, or all where there are no more. The array is kept as it is, and not copied.
+    pub fn front_of(cells: [u8; N], len: usize) -> InlineBytes<N>
+        ensures { held result ≡ take len cells.entry }
+    {
+        InlineBytes {
+            cells,
+            len: len.min(N),
         }
     }
 

@@ -20,7 +20,7 @@ pub(crate) fn answer_to<W: Write>(
         Command::Join(base, suffix) => answer_join(base, suffix, out),
         Command::Mangle(path, item) => answer_mangle(path, item, out),
         Command::Bundle(text) => answer_bundle(heap, text, out),
-        Command::Unknown => writeln!(out, "unknown"),
+        Command::Unknown => out.write_all(b"unknown\n"),
     }
 }
 

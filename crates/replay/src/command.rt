@@ -40,21 +40,20 @@ impl<'a> Iterator for Commands<'a> {
             return None;
         }
         // A last line that no 0x0A ends is a line all the same.
-        let (line, rest) = cut(input, b"\n");
-        let size = text_size(line);
-        let (text, rest) = cut_text(size, rest);
+        let (line, rest) = cut(input, b'\n');
+        let (word, arguments) = cut(line, b'\t');
+        let (text, rest) = cut_text(text_size(word, arguments), rest);
         self.rest = rest;
-        Some(command_of(line, text))
+        Some(command_of(word, arguments, text))
     }
 }
 
 /// How many bytes of text follow the line: as many as the last field of a command says that takes a text.
-fn text_size(line: &[u8]) -> Option<usize> {
-    let (word, arguments) = cut(line, b"\t");
+fn text_size(word: &[u8], arguments: &[u8]) -> Option<usize> {
     let size = match word {
         b"bundle" => arguments,
         // Not answered yet, and its text is no list of commands.
-        b"read" => cut(arguments, b"\t").1,
+        b"read" => cut(arguments, b'\t').1,
         _ => return None,
     };
     Some(from_utf8(size).unwrap_or("").parse().unwrap_or(0))
@@ -72,19 +71,18 @@ fn cut_text(size: Option<usize>, rest: &[u8]) -> (&[u8], &[u8])
     (&rest[..end], &rest[next..])
 }
 
-/// The command of a line and the text that follows it. An argument that is not there is an empty one: it is then refused as an
-/// empty one would be, and every line has an answer.
-fn command_of<'a>(line: &'a [u8], text: &'a [u8]) -> Command<'a> {
-    let (word, rest) = cut(line, b"\t");
+/// The command of a word, of what follows it on its line, and of the text that follows the line. An argument that is not there
+/// is an empty one: it is then refused as an empty one would be, and every line has an answer.
+fn command_of<'a>(word: &[u8], arguments: &'a [u8], text: &'a [u8]) -> Command<'a> {
     match word {
-        b"plain" => Command::Plain(rest),
-        b"path" => Command::Path(rest),
+        b"plain" => Command::Plain(arguments),
+        b"path" => Command::Path(arguments),
         b"join" => {
-            let (base, suffix) = cut(rest, b"\t");
+            let (base, suffix) = cut(arguments, b'\t');
             Command::Join(base, suffix)
         }
         b"mangle" => {
-            let (path, item) = cut(rest, b"\t");
+            let (path, item) = cut(arguments, b'\t');
             Command::Mangle(path, item)
         }
         b"bundle" => Command::Bundle(text),
@@ -93,8 +91,12 @@ fn command_of<'a>(line: &'a [u8], text: &'a [u8]) -> Command<'a> {
 }
 
 /// What stands before the first `mark`, and what after it; all and nothing where there is none.
-fn cut<'a>(bytes: &'a [u8], mark: &[u8; 1]) -> (&'a [u8], &'a [u8])
+// By `find_byte`: `split_once_str` makes a searcher anew each time, which costs more than the short lines of commands.
+fn cut(bytes: &[u8], mark: u8) -> (&[u8], &[u8])
     ensures { 0 < length bytes.now → length result.1.now < length bytes.now }
 {
-    bytes.split_once_str(mark).unwrap_or((bytes, &[]))
+    match bytes.find_byte(mark) {
+        Some(at) => (&bytes[..at], &bytes[at + 1..]),
+        None => (bytes, &[]),
+    }
 }

@@ -62,18 +62,16 @@ pub(crate) fn write_demo<W: Write>(heap: Global, out: &mut W) -> Result<(), Fail
     )?;
     write_table(rows, out)?;
 
-    let pairs = pairs_of(heap, rows)?;
-    let pairs = pairs.as_slice();
     writeln!(out)?;
     writeln!(
         out,
         "Comparing every two names, had the words only been joined with `_`:"
     )?;
-    write_collisions(heap, pairs, |row| row.joined.as_str(), out)?;
+    write_collisions(rows, |row| row.joined.as_str(), out)?;
     writeln!(out, "Comparing every two names of the escape Mangler:")?;
-    write_collisions(heap, pairs, |row| row.escaped.as_str(), out)?;
+    write_collisions(rows, |row| row.escaped.as_str(), out)?;
     writeln!(out, "Comparing every two names of the length Mangler:")?;
-    write_collisions(heap, pairs, |row| row.lengths.as_str(), out)?;
+    write_collisions(rows, |row| row.lengths.as_str(), out)?;
     Ok(())
 }
 
@@ -108,38 +106,43 @@ fn write_columns<W: Write>(first: &str, second: &str, third: &str, out: &mut W) 
     writeln!(out, "  {first:<33}{second:<35}{third}")
 }
 
-/// Every two rows, each two once: a row with those before it.
-fn pairs_of(heap: Global, rows: &[Row]) -> Result<Vec<(&Row, &Row)>, AllocError> {
-    let mut pairs = Vec::new(heap);
-    for (i, row) in rows.iter().enumerate() {
-        pairs.extend(rows[..i].iter().map(|other| (other, row)))?;
-    }
-    Ok(pairs)
-}
-
-/// Which of the pairs have one name, where `name` names a row.
+/// Which two rows have one name, where `name` names a row. Each two are compared once, and nothing is kept of them.
 fn write_collisions<F: Fn(&Row) -> &str, W: Write>(
-    heap: Global,
-    pairs: &[(&Row, &Row)],
+    rows: &[Row],
     name: F,
     out: &mut W,
 ) -> io::Result<()>
     requires { F.IsAlwaysCallable name }
 {
-    let collisions: Vec<(&Row, &Row)> = pairs
-        .iter()
-        .copied()
-        .filter(|(a, b)| name(a) == name(b))
-        .collect(heap)?;
-    for (a, b) in &collisions {
-        let first = a.declaration.as_str();
-        let second = b.declaration.as_str();
-        let name = name(a);
-        writeln!(out, "  {first} and {second} share the name {name}")?;
+    let mut compared: usize = 0;
+    let mut equal: usize = 0;
+    for (i, row) in rows.iter().enumerate() {
+        let others = &rows[..i];
+        compared = compared.saturating_add(others.len());
+        equal = equal.saturating_add(write_equal(others, row, &name, out)?);
     }
-    let compared = pairs.len();
-    match collisions.len() {
+    match equal {
         0 => writeln!(out, "  {compared} pairs compared: none share a name"),
-        equal => writeln!(out, "  {compared} pairs compared: {equal} share a name"),
+        _ => writeln!(out, "  {compared} pairs compared: {equal} share a name"),
     }
+}
+
+/// Tells which of the other rows have the name of a row, and answers how many they are.
+fn write_equal<F: Fn(&Row) -> &str, W: Write>(
+    others: &[Row],
+    row: &Row,
+    name: &F,
+    out: &mut W,
+) -> io::Result<usize>
+    requires { F.IsAlwaysCallable name.now }
+{
+    let mut equal: usize = 0;
+    for other in others.iter().filter(|other| name(other) == name(row)) {
+        let first = other.declaration.as_str();
+        let second = row.declaration.as_str();
+        let name = name(row);
+        writeln!(out, "  {first} and {second} share the name {name}")?;
+        equal = equal.saturating_add(1);
+    }
+    Ok(equal)
 }

@@ -26,19 +26,21 @@ pub(crate) fn write_modules<W: Write>(
 
 fn write_list<W: Write>(heap: Global, bundle: &Bundle<'_>, out: &mut W) -> io::Result<()> {
     let mut paths = BTreeSet::new(heap);
+    // Counted as they are listed, and not by going through the bundle once more, which takes as long as listing them.
+    let mut again: usize = 0;
     for module in bundle.modules() {
         let mark = if paths.insert(module.path)? {
             ""
         } else {
+            again = again.saturating_add(1);
             "\tagain: the first at this path counts"
         };
         write_module(&module, mark, out)?;
     }
-    let all = bundle.modules().count();
-    let count = Counted(all, "module");
-    match all.saturating_sub(paths.len()) {
+    let count = Counted(paths.len().saturating_add(again), "module");
+    match again {
         0 => writeln!(out, "{count}"),
-        again => writeln!(out, "{count}, {again} of them again"),
+        _ => writeln!(out, "{count}, {again} of them again"),
     }
 }
 

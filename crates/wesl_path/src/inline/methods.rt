@@ -16,7 +16,8 @@ impl<const N: usize> InlineBytes<N> {
         }
     }
 
-    /// The front of an array: its first `len` bytes, or all where there are no more. The array is kept as it is, and not copied.
+    /// The front of an array: its first `len` bytes, or all where there are no more. Taken whole, so that bytes which a call wrote
+    /// need not be pushed again.
     pub fn front_of(cells: [u8; N], len: usize) -> InlineBytes<N>
         ensures { held result ≡ take len cells.entry }
     {

@@ -1,5 +1,6 @@
 -- A path's words, as the manglings write them.
-use Rattle.std.proofs.Common.{◌≡◌, ℕ, ◌⊎◌, [], ◌++◌, drop, refl, sym, ap, ◌∙◌, ⊎_elim}
+use Rattle.std.proofs.Common.{◌≡◌, ℕ, ◌+◌, ◌≤◌, ◌⊎◌, List, [], ◌++◌, length, take, drop, refl, sym, ap, ◌∙◌, ⊎_elim, arith}
+use Rattle.std.proofs.lemmas.List.{take_all, length-drop}
 use Rattle.wesl_path.specs.Heads.{kind_of, HeadOf}
 use Rattle.wesl_path.specs.Path.{Origin, absolute, relative, packaged, words, origin_words, path_words}
 use Rattle.wesl_path.specs.Texts.{path_text, path_value}
@@ -34,3 +35,9 @@ other_words path h head e =
     by absolute k = refl
     by (relative m) k = refl
     by (packaged part more) k = ⊎_elim (λ a. absurd (cc)) (λ r. absurd (cc)) e
+
+-- the same of the path's bytes, cut after the origin
+pub words_after : (path : ModulePath) (h : Head) (text : List ℕ) (n : ℕ) → text ≡ path_text path → length text ≤ h.end + n → HeadOf (path_text path) h → (h.origin ≡ Absolute) ⊎ ((n : ℕ) × (h.origin ≡ Relative n))
+    → words (take n (drop h.end text)) ≡ package_parts (path_value path).origin ++ (path_value path).components
+words_after path h text n e within head kind =
+    ap words (take_all _ _ (let k = length-drop h.end text in omega (arith, k)) ∙ ap (drop h.end) e) ∙ other_words path h head kind
